@@ -1,0 +1,297 @@
+ghost use mathlib.Core.Path.{_≡_};
+ghost use mathlib.Core.Bool.{cond};
+ghost use Prim.Native.Nat.{_<_, _≤_};
+ghost use Rattle.config.specs.Settings.{useSmi, smac, mmac, smiLock, regionIn, windowOf, enabled, headerPlace, byteOf, withByte, lockedBits, stickyBits, merged, keptBits, byteAfter, written};
+ghost use Rattle.config.specs.Ports.{internal, indexed, gives, portRead, portWrite};
+use region::Region;
+use steps::Answer;
+
+// The five stored configuration bytes: CCR1, CCR3, and the SMAR bytes CDh, CEh and CFh.
+pub struct Settings {
+    pub ccr1: u8,
+    pub ccr3: u8,
+    pub high: u8,
+    pub middle: u8,
+    pub low: u8,
+}
+
+// The settings, and the index that port 23h reaches while it is armed.
+pub struct Config {
+    pub settings: Settings,
+    pub index: u8,
+    pub armed: bool,
+}
+
+// The configuration after a port access, and the answer.
+pub struct Accessed {
+    pub config: Config,
+    pub answer: Answer,
+}
+
+// The bits of a byte that the lock covers.
+fn locked_bits(index: u8) -> u8
+    ensures { λ r. ⌜ r ≡ lockedBits index ⌝ }
+{
+    match index {
+        0xC1 => 0x0E,
+        0xC3 => 0x02,
+        0xCD => 0xFF,
+        0xCE => 0xFF,
+        0xCF => 0xFF,
+        _ => 0,
+    }
+}
+
+// The bits of a byte that no write clears.
+fn sticky_bits(index: u8) -> u8
+    ensures { λ r. ⌜ r ≡ stickyBits index ⌝ }
+{
+    if index == 0xC3 { 0x01 } else { 0 }
+}
+
+// The bits of old where the mask has them, and those of value elsewhere.
+fn merge(mask: u8, old: u8, value: u8) -> u8
+    ensures { λ r. ⌜ r ≡ merged mask old value ⌝ }
+{
+    (old & mask) | (value & (255 - mask))
+}
+
+// Whether port 23h reaches a configuration register at this index.
+fn is_internal(index: u8) -> bool
+    ensures { λ r. ⌜ r ≡ internal index ⌝ }
+{
+    if 0xFE <= index {
+        return true;
+    }
+    if index < 0xC0 {
+        return false;
+    }
+    index <= 0xCF
+}
+
+impl Settings {
+    pub fn use_smi(self) -> bool
+        ensures { λ r. ⌜ r ≡ useSmi self ⌝ }
+    {
+        self.ccr1 / 2 % 2 == 1
+    }
+
+    pub fn smac(self) -> bool
+        ensures { λ r. ⌜ r ≡ smac self ⌝ }
+    {
+        self.ccr1 / 4 % 2 == 1
+    }
+
+    fn mmac(self) -> bool
+        ensures { λ r. ⌜ r ≡ mmac self ⌝ }
+    {
+        self.ccr1 / 8 % 2 == 1
+    }
+
+    fn smi_lock(self) -> bool
+        ensures { λ r. ⌜ r ≡ smiLock self ⌝ }
+    {
+        self.ccr3 % 2 == 1
+    }
+
+    // The region that SMAR names.
+    pub fn region(self) -> Region
+        ensures { λ r. ⌜ r ≡ regionIn self ⌝ }
+    {
+        region::region_of(self.high, self.middle, self.low)
+    }
+
+    // The region whose bytes management memory answers: of code 0 where all goes to main memory.
+    pub fn window(self, inside: bool) -> Region
+        ensures { λ r. ⌜ r ≡ windowOf self inside ⌝ }
+    {
+        let r = self.region();
+        let none = Region {
+            base: r.base,
+            code: 0,
+        };
+        if self.use_smi() {
+            if inside {
+                if self.mmac() {
+                    return none;
+                }
+                return r;
+            }
+            if self.smac() {
+                return r;
+            }
+            return none;
+        }
+        none
+    }
+
+    // Whether SMIs are enabled outside the mode.
+    pub fn enables_smi(self) -> bool
+        ensures { λ r. ⌜ r ≡ enabled self ⌝ }
+    {
+        if self.use_smi() {
+            if self.smac() {
+                return false;
+            }
+            let r = self.region();
+            return r.is_usable();
+        }
+        false
+    }
+
+    // The place of the header's first byte in management memory.
+    pub fn header_place(self) -> u32
+        ensures { λ r. ⌜ r ≡ headerPlace self ⌝ }
+    {
+        let r = self.region();
+        let size = region::size_of(r.code);
+        if size < 48 {
+            return 0;
+        }
+        (size - 48) as u32
+    }
+
+    // The stored byte at an internal index.
+    pub fn byte(self, index: u8) -> u8
+        ensures { λ r. ⌜ r ≡ byteOf self index ⌝ }
+    {
+        match index {
+            0xC1 => self.ccr1,
+            0xC3 => self.ccr3,
+            0xCD => self.high,
+            0xCE => self.middle,
+            0xCF => self.low,
+            _ => 0,
+        }
+    }
+
+    fn with_byte(self, index: u8, value: u8) -> Settings
+        ensures { λ r. ⌜ r ≡ withByte self index value ⌝ }
+    {
+        let mut next = self;
+        match index {
+            0xC1 => {
+                next.ccr1 = value;
+            }
+            0xC3 => {
+                next.ccr3 = value;
+            }
+            0xCD => {
+                next.high = value;
+            }
+            0xCE => {
+                next.middle = value;
+            }
+            0xCF => {
+                next.low = value;
+            }
+            _ => {}
+        }
+        next
+    }
+
+    // The bits that a write to an index leaves as they are.
+    fn kept_bits(self, index: u8, inside: bool) -> u8
+        ensures { λ r. ⌜ r ≡ keptBits self index inside ⌝ }
+    {
+        if inside {
+            return 0;
+        }
+        if self.smi_lock() {
+            return locked_bits(index);
+        }
+        0
+    }
+
+    // The settings after a write to an internal index. The lock is tested on the settings before it.
+    pub fn write(self, index: u8, value: u8, inside: bool) -> Settings
+        ensures { λ r. ⌜ r ≡ written self index value inside ⌝ }
+    {
+        let old = self.byte(index);
+        let merged = merge(self.kept_bits(index, inside), old, value);
+        self.with_byte(index, merged | (old & sticky_bits(index)))
+    }
+}
+
+// A byte as a value that is answered.
+fn wide(x: u8) -> u32
+    ensures { λ r. ⌜ r ≡ x ⌝ }
+{
+    x as u32
+}
+
+impl Config {
+    // A read of a port.
+    pub fn read(self, port: u16) -> Accessed
+        ensures { λ r. ⌜ r ≡ portRead self port ⌝ }
+    {
+        let mut next = self;
+        if port != 0x23 {
+            return Accessed {
+                config: next,
+                answer: Answer::External,
+            };
+        }
+        if self.armed {
+            next.armed = false;
+            let index = self.index;
+            let s = self.settings;
+            if is_internal(index) {
+                return Accessed {
+                    config: next,
+                    answer: Answer::Value(wide(s.byte(index))),
+                };
+            }
+            return Accessed {
+                config: next,
+                answer: Answer::External,
+            };
+        }
+        Accessed {
+            config: next,
+            answer: Answer::External,
+        }
+    }
+
+    // A write to a port.
+    pub fn write(self, port: u16, value: u8, inside: bool) -> Accessed
+        ensures { λ r. ⌜ r ≡ portWrite self port value inside ⌝ }
+    {
+        let mut next = self;
+        if port == 0x22 {
+            next.index = value;
+            next.armed = true;
+            return Accessed {
+                config: next,
+                answer: Answer::Done,
+            };
+        }
+        if port != 0x23 {
+            return Accessed {
+                config: next,
+                answer: Answer::External,
+            };
+        }
+        if self.armed {
+            next.armed = false;
+            let index = self.index;
+            if is_internal(index) {
+                let s = self.settings;
+                let after = s.write(index, value, inside);
+                next.settings = after;
+                return Accessed {
+                    config: next,
+                    answer: Answer::Done,
+                };
+            }
+            return Accessed {
+                config: next,
+                answer: Answer::External,
+            };
+        }
+        Accessed {
+            config: next,
+            answer: Answer::External,
+        }
+    }
+}
