@@ -1,8 +1,8 @@
 -- 01, "What the machine holds" and "Lock": the five stored bytes, what their bits say, and what a write leaves.
-use Prim.Native.Nat.{ℕ, _/_, _%_, _-_}
+use Prim.Native.Nat.{ℕ, zero, suc, _+_, _*_, _/_, _%_, _-_}
+use mathlib.Core.Path.{_≡_}
 use mathlib.Core.Bool.{Bool, cond, not, _&&_, _||_}
 use lib.Dec.{eqb}
-use lib.Bits.{bitAnd, bitOr}
 use Rattle.region.specs.Region.{regionOf, sizeOf, usable}
 use Rattle.region.specs.declared.Region.{Region}
 use Rattle.config.specs.declared.Settings.{Settings}
@@ -57,27 +57,35 @@ withByte s i v = record {
   low = cond (eqb i 0xcf) v (s .low);
 }
 
--- "CCR1 bits 1 to 3, CCR3 bit 1 and the SMAR bytes keep their values": the bits that the lock covers, by index
+-- The bits that the lock covers outside the mode, by index: "CCR1 bits 1 to 3, CCR3 bit 1 and the SMAR bytes keep their values", and
+-- CCR3 bit 0, SMI_LOCK, which "falls only at reset".
 unfoldable pub lockedBits : ℕ → ℕ
-lockedBits i = cond (eqb i 0xc1) 0x0e (cond (eqb i 0xc3) 0x02 (cond (eqb i 0xcd || eqb i 0xce || eqb i 0xcf) 0xff 0))
+lockedBits i = cond (eqb i 0xc1) 0x0e (cond (eqb i 0xc3) 0x03 (cond (eqb i 0xcd || eqb i 0xce || eqb i 0xcf) 0xff 0))
 
--- "SMI_LOCK itself falls only at reset, also for a handler": the bits that no write clears
+-- The bits that it covers inside: "SMI_LOCK itself falls only at reset, also for a handler."
 unfoldable pub stickyBits : ℕ → ℕ
 stickyBits i = cond (eqb i 0xc3) 0x01 0
 
--- the bits of old where the mask has them, and those of v elsewhere
-unfoldable pub merged : ℕ → ℕ → ℕ → ℕ
-merged mask old v = bitOr (bitAnd old mask) (bitAnd v (255 - mask))
-
--- "Outside the mode, with SMI_LOCK 1 before the write, [the locked bits] keep their values"
+-- "with SMI_LOCK 1 before the write"
 unfoldable pub keptBits : Settings → ℕ → Bool → ℕ
-keptBits s i inside = cond (not inside && smiLock s) (lockedBits i) 0
+keptBits s i inside = cond (smiLock s) (cond inside (stickyBits i) (lockedBits i)) 0
 
--- "other bits of the byte are written"
-unfoldable pub byteAfter : Settings → ℕ → ℕ → Bool → ℕ
-byteAfter s i v inside =
-    let old = byteOf s i in
-    bitOr (merged (keptBits s i inside) old v) (bitAnd old (stickyBits i))
+-- of the lowest bits, as many as given: those of old where the mask has them, and those of v elsewhere; the bits above are old's
+unfoldable pub mergedBits : ℕ → ℕ → ℕ → ℕ → ℕ
+mergedBits zero mask old v = old
+mergedBits (suc n) mask old v = cond (eqb (mask % 2) 1) (old % 2) (v % 2) + 2 * mergedBits n (mask / 2) (old / 2) (v / 2)
 
+unfoldable pub merged : ℕ → ℕ → ℕ → ℕ
+merged mask old v = mergedBits 8 mask old v
+
+-- "Lock": the covered bits "keep their values; other bits of the byte are written"
 unfoldable pub written : Settings → ℕ → ℕ → Bool → Settings
-written s i v inside = withByte s i (byteAfter s i v inside)
+written s i v inside = withByte s i (merged (keptBits s i inside) (byteOf s i) v)
+
+-- "What demand 3 compares": the locked bits of the byte at an index, the others 0
+unfoldable pub lockedPart : Settings → ℕ → ℕ
+lockedPart s i = merged (lockedBits i) (byteOf s i) 0
+
+-- "The locked settings are CCR1 bits 1 to 3, CCR3 bits 0 and 1, and the SMAR bytes": they are the same in both
+pub record SameLocked (s t : Settings) : Type 0 where
+  pub same : (i : ℕ) → lockedPart s i ≡ lockedPart t i

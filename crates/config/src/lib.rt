@@ -1,7 +1,7 @@
 ghost use mathlib.Core.Path.{_≡_};
 ghost use mathlib.Core.Bool.{cond};
 ghost use Prim.Native.Nat.{_<_, _≤_};
-ghost use Rattle.config.specs.Settings.{useSmi, smac, mmac, smiLock, regionIn, windowOf, enabled, headerPlace, byteOf, withByte, lockedBits, stickyBits, merged, keptBits, byteAfter, written};
+ghost use Rattle.config.specs.Settings.{useSmi, smac, mmac, smiLock, regionIn, windowOf, enabled, headerPlace, byteOf, withByte, lockedBits, stickyBits, keptBits, merged, written};
 ghost use Rattle.config.specs.Ports.{internal, indexed, gives, portRead, portWrite};
 use region::Region;
 use steps::Answer;
@@ -28,13 +28,13 @@ pub struct Accessed {
     pub answer: Answer,
 }
 
-// The bits of a byte that the lock covers.
+// The bits that the lock covers outside the mode.
 fn locked_bits(index: u8) -> u8
     ensures { λ r. ⌜ r ≡ lockedBits index ⌝ }
 {
     match index {
         0xC1 => 0x0E,
-        0xC3 => 0x02,
+        0xC3 => 0x03,
         0xCD => 0xFF,
         0xCE => 0xFF,
         0xCF => 0xFF,
@@ -42,7 +42,7 @@ fn locked_bits(index: u8) -> u8
     }
 }
 
-// The bits of a byte that no write clears.
+// The bits that it covers inside.
 fn sticky_bits(index: u8) -> u8
     ensures { λ r. ⌜ r ≡ stickyBits index ⌝ }
 {
@@ -194,10 +194,10 @@ impl Settings {
     fn kept_bits(self, index: u8, inside: bool) -> u8
         ensures { λ r. ⌜ r ≡ keptBits self index inside ⌝ }
     {
-        if inside {
-            return 0;
-        }
         if self.smi_lock() {
+            if inside {
+                return sticky_bits(index);
+            }
             return locked_bits(index);
         }
         0
@@ -208,8 +208,7 @@ impl Settings {
         ensures { λ r. ⌜ r ≡ written self index value inside ⌝ }
     {
         let old = self.byte(index);
-        let merged = merge(self.kept_bits(index, inside), old, value);
-        self.with_byte(index, merged | (old & sticky_bits(index)))
+        self.with_byte(index, merge(self.kept_bits(index, inside), old, value))
     }
 }
 
