@@ -1,19 +1,24 @@
 -- 01, "Forty-eight bytes below the top": the registers that entry loads.
-use Prim.Native.Nat.{ℕ, _+_, _*_, _/_, _%_}
+use Prim.Native.Nat.{ℕ, _*_, _/_, _%_}
 use mathlib.Core.Bool.{true}
+use mathlib.Core.List.{[], _∷_}
+use lib.Bits.{bitAnd}
 use Rattle.memory.specs.declared.Segment.{Segment}
 use Rattle.header.specs.declared.Level.the-variants.{Zero}
 use Rattle.header.specs.declared.Registers.{Registers}
+use Rattle.header.specs.Words.{number}
 
--- "CR0 with bits 0, 2, 3 and 31 cleared": bits 30 to 4, and bit 1, are kept
-abbrev pub entryCr0 : ℕ → ℕ
-entryCr0 c = c / 16 % 134217728 * 16 + c / 2 % 2 * 2
+-- "CR0 with bits 0, 2, 3 and 31 cleared"
+unfoldable pub entryCr0 : ℕ → ℕ
+entryCr0 c = bitAnd c 0x7ffffff2
 
 -- "CS gets base bits 19-12 as its high byte and 00h low; descriptor FF FF b0 b1 b2 93 8F b3, with b0 to b3 the base's bytes, low first."
 unfoldable pub entryCs : ℕ → Segment
 entryCs base = record {
-  selector = base / 4096 % 256 * 256;
-  descriptor = 0xffff + base % 16777216 * 65536 + 0x93 * 1099511627776 + 0x8f * 281474976710656 + base / 16777216 * 72057594037927936;
+  selector = 256 * (base / 4096 % 256);
+  descriptor =
+      number
+      (0xff ∷ 0xff ∷ base % 256 ∷ base / 256 % 256 ∷ base / 65536 % 256 ∷ 0x93 ∷ 0x8f ∷ base / 16777216 % 256 ∷ []);
 }
 
 -- "Entry then sets EIP 0, EFLAGS 2, DR7 400h, CR0 with bits 0, 2, 3 and 31 cleared, level 0, writable"

@@ -1,3 +1,4 @@
 pub mod Words
 pub mod Header
 pub mod Entry
+pub mod ReadBack

@@ -1,0 +1,139 @@
+-- What was written is read back. Assumes nothing.
+use mathlib.Core.Path.{_≡_, refl, sym, ap, _∙_}
+use mathlib.Core.Bool.{Bool, true, false, cond}
+use mathlib.Core.List.{List, [], _∷_, _++_, map, append-assoc}
+use Prim.Native.Nat.{ℕ, zero, suc, _+_, _*_, _/_, _%_, _-_, _^_, _≤_, _<_}
+use native.Mathlib.Nat.{div-div-eq-div-mul}
+use native.Mathlib.Omega.{arith}
+use lib.ListN.{length, getD, set, take, drop, List·getD-append}
+use lib.Seq.{sets, sets-eq, getD-append-add, length-take-le}
+use lib.Dec.{eqb}
+use Rattle.header.specs.declared.Level.{Level}
+use Rattle.header.specs.declared.Level.the-variants.{Zero, One, Two, Three}
+use Rattle.header.specs.declared.Registers.{Registers}
+use Rattle.header.specs.declared.Saved.{Saved}
+use Rattle.header.specs.Words.{number, wordBytes, bytesOf, wordAt}
+use Rattle.header.specs.Header.{Word, below, holds, upward, bit, levelNumber, levelOf, headerBytes, headed, wordIn, resumed}
+use Rattle.header.specs.ReadBack.{RegistersFit, SavedFits, withEip, WordsReadBack, RegistersReadBack}
+
+pub length-bytes : (ws : List ℕ) → length (bytesOf ws) ≡ 4 * length ws
+unfolding bytesOf wordBytes
+length-bytes [] = refl
+length-bytes (w ∷ ws) = let e = length-bytes ws in omega arith
+
+-- a byte of a list that was stored
+pub stored-byte : (g bs : List ℕ) (at i : ℕ) → at + length bs ≤ length g → i < length bs → getD (sets g at bs) (at + i) 0 ≡ getD bs i 0
+stored-byte g bs at i h k =
+    let l : length (take at g) ≡ at = length-take-le at g (omega arith) in
+    let e : at + i ≡ length (take at g) + i = omega arith in
+    rw (sets-eq bs g at h, append-assoc, e) (getD-append-add (take at g) (bs ++ drop (at + length bs) g) i 0 ∙ List·getD-append bs (drop (at + length bs) g) 0 i k)
+
+-- a word is the number of its four bytes
+whole : (w : ℕ) → w < 4294967296 → number (wordBytes w) ≡ w
+unfolding wordBytes
+whole w f =
+    let d : (x : ℕ) → x % 256 + 256 * (x / 256) ≡ x = λ x. omega arith in
+    let a : w / 65536 ≡ w / 256 / 256 = sym (div-div-eq-div-mul w 256 256) in
+    let b : w / 16777216 ≡ w / 256 / 256 / 256 = sym (div-div-eq-div-mul w 65536 256) ∙ ap (λ (x : ℕ). x / 256) a in
+    let top : w / 256 / 256 / 256 % 256 + 256 * 0 ≡ w / 256 / 256 / 256 = omega arith in
+    rw (b, a, top, d (w / 256 / 256), d (w / 256)) (d w)
+
+-- the words that the bytes hold
+held : (ws : List ℕ) (k : ℕ) → k < length ws → getD ws k 0 < 4294967296
+    → number (getD (bytesOf ws) (4 * k) 0 ∷ getD (bytesOf ws) (4 * k + 1) 0 ∷ getD (bytesOf ws) (4 * k + 2) 0 ∷ getD (bytesOf ws) (4 * k + 3) 0 ∷ []) ≡ getD ws k 0
+unfolding bytesOf wordBytes
+held [] k h f = absurd (omega arith)
+held (w ∷ ws) zero h f = whole w f
+held (w ∷ ws) (suc k) h f =
+    let e : 4 * suc k ≡ suc (suc (suc (suc (4 * k)))) = omega arith in
+    let e1 : 4 * suc k + 1 ≡ suc (suc (suc (suc (4 * k + 1)))) = omega arith in
+    let e2 : 4 * suc k + 2 ≡ suc (suc (suc (suc (4 * k + 2)))) = omega arith in
+    let e3 : 4 * suc k + 3 ≡ suc (suc (suc (suc (4 * k + 3)))) = omega arith in
+    rw (e1, e2, e3, e) (held ws k (omega arith) f)
+
+-- a word of a list of words that was stored
+pub stored-word-at : (g ws : List ℕ) (at k : ℕ) → at + 4 * length ws ≤ length g → k < length ws → getD ws k 0 < 4294967296
+    → wordAt (sets g at (bytesOf ws)) (at + 4 * k) ≡ getD ws k 0
+unfolding wordAt
+stored-word-at g ws at k h l f =
+    let b = length-bytes ws in
+    let e1 : at + 4 * k + 1 ≡ at + (4 * k + 1) = omega arith in
+    let e2 : at + 4 * k + 2 ≡ at + (4 * k + 2) = omega arith in
+    let e3 : at + 4 * k + 3 ≡ at + (4 * k + 3) = omega arith in
+    let s : (j : ℕ) → j < 4 → getD (sets g at (bytesOf ws)) (at + (4 * k + j)) 0 ≡ getD (bytesOf ws) (4 * k + j) 0
+          = λ j m. stored-byte g (bytesOf ws) at (4 * k + j) (omega arith) (omega arith) in
+    rw (e1, e2, e3, stored-byte g (bytesOf ws) at (4 * k) (omega arith) (omega arith), s 1 (omega arith), s 2 (omega arith), s 3 (omega arith)) (held ws k l f)
+
+bit-small : (b : Bool) → bit b < 2
+bit-small true = omega arith
+bit-small false = omega arith
+
+level-small : (l : Level) → levelNumber l < 4
+level-small Zero = omega arith
+level-small One = omega arith
+level-small Two = omega arith
+level-small Three = omega arith
+
+module _ (s : Saved) (f : SavedFits s) where
+  fits : (w : Word) → holds s w < 4294967296
+  fits Word.Dr7 = f .registers .dr7
+  fits Word.Eflags = f .registers .eflags
+  fits Word.Cr0 = f .registers .cr0
+  fits Word.CurrentIp = f .current
+  fits Word.NextIp = f .next
+  fits Word.CsLevel = let a = f .registers .selector in let b = level-small (s .registers .level) in omega arith
+  fits Word.DescriptorHigh = let a = f .registers .descriptor in omega arith
+  fits Word.DescriptorLow = omega arith
+  fits Word.Flags = omega (arith, bit-small (s .registers .writable), bit-small (s .trap .output), bit-small (s .trap .rep), bit-small (s .smint), bit-small (s .halted))
+  fits Word.PortSize = f .transfer
+  fits Word.OutputData = f .value
+  fits Word.StringIndex = f .index
+
+  module _ (g : List ℕ) (at : ℕ) (h : at + 48 ≤ length g) where
+    back-at : (k : ℕ) (w : Word) → k < 12 → getD (map (holds s) upward) k 0 ≡ holds s w → wordAt (headed g at s) (at + 4 * k) ≡ holds s w
+    unfolding headed headerBytes
+    back-at k w l e = let i : holds s w < 4294967296 = fits w in stored-word-at g (map (holds s) upward) at k h l (omega (arith, e)) ∙ e
+
+    back : (w : Word) → wordIn (headed g at s) at w ≡ holds s w
+    back Word.Dr7 = back-at 11 Word.Dr7 (omega arith) refl
+    back Word.Eflags = back-at 10 Word.Eflags (omega arith) refl
+    back Word.Cr0 = back-at 9 Word.Cr0 (omega arith) refl
+    back Word.CurrentIp = back-at 8 Word.CurrentIp (omega arith) refl
+    back Word.NextIp = back-at 7 Word.NextIp (omega arith) refl
+    back Word.CsLevel = back-at 6 Word.CsLevel (omega arith) refl
+    back Word.DescriptorHigh = back-at 5 Word.DescriptorHigh (omega arith) refl
+    back Word.DescriptorLow = back-at 4 Word.DescriptorLow (omega arith) refl
+    back Word.Flags = back-at 3 Word.Flags (omega arith) refl
+    back Word.PortSize = back-at 2 Word.PortSize (omega arith) refl
+    back Word.OutputData = back-at 1 Word.OutputData (omega arith) refl
+    back Word.StringIndex = back-at 0 Word.StringIndex (omega arith) refl
+
+pub words-back : WordsReadBack
+words-back g at s h f w = back s f g at h w
+
+level-back : (l : Level) → levelOf (levelNumber l) ≡ l
+level-back Zero = refl
+level-back One = refl
+level-back Two = refl
+level-back Three = refl
+
+bit-back : (b : Bool) → eqb (bit b) 1 ≡ b
+bit-back true = refl
+bit-back false = refl
+
+pub registers-back : RegistersReadBack
+unfolding resumed
+registers-back g at s h f =
+    let r = s .registers in
+    let b = back s f g at h in
+    let t = s .trap in
+    let k = level-small (r .level) in
+    let m = f .registers .selector in
+    let selector : (r .cs .selector + 2097152 * levelNumber (r .level)) % 65536 ≡ r .cs .selector = omega arith in
+    let level : (r .cs .selector + 2097152 * levelNumber (r .level)) / 2097152 % 4 ≡ levelNumber (r .level)
+          = let q : (r .cs .selector + 2097152 * levelNumber (r .level)) / 2097152 ≡ levelNumber (r .level) = omega arith in rw q (omega arith) in
+    let descriptor : r .cs .descriptor % 4294967296 + 4294967296 * (r .cs .descriptor / 4294967296) ≡ r .cs .descriptor = omega arith in
+    let c : (bit (r .writable) + 2 * bit (t .output) + 4 * bit (t .rep) + 8 * bit (s .smint) + 16 * bit (s .halted)) % 2 ≡ bit (r .writable)
+          = omega (arith, bit-small (r .writable)) in
+    rw (b Word.NextIp, b Word.Eflags, b Word.Cr0, b Word.Dr7, b Word.CsLevel, b Word.DescriptorLow, b Word.DescriptorHigh, b Word.Flags)
+    (rw (selector, level, descriptor, c, level-back (r .level), bit-back (r .writable)))

@@ -1,0 +1,22 @@
+use borrow.Author.Needs.{needs}
+use Rattle.header.proofs.output_trap.Statement.{statement}
+use Rattle.header.proofs.output_trap.Tie as tie
+use Rattle.header.proofs.output_trap.Reads as reads
+use Rattle.header.proofs.output_trap.Lts as lts
+use Rattle.header.proofs.cut_value.Reads as cut-value-reads
+use Rattle.header.proofs.port_size.Reads as port-size-reads
+
+-- src/lib.rt:111:19
+port-size-requires : tie.Need-port-size-requires
+port-size-requires c κs = search needs
+
+-- src/lib.rt:112:16
+cut-value-requires : tie.Need-cut-value-requires
+cut-value-requires c κs = search needs
+
+-- src/lib.rt:105:1
+returns : tie.Need-returns
+returns c = rw ((c .cut-value .ensures), (c .before .port-size .ensures))
+
+pub output-trap-spec : {M : Type 1} → statement M
+output-trap-spec = tie.close (tie.spec port-size-requires cut-value-requires returns)

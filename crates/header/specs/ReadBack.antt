@@ -1,0 +1,40 @@
+-- Reading a header back (01, "Forty-eight bytes below the top"): what RSM loads from the 48 bytes that entry wrote.
+use Prim.Native.Nat.{ℕ, _+_, _≤_, _<_, _^_}
+use mathlib.Core.Path.{_≡_}
+use mathlib.Core.List.{List}
+use lib.ListN.{length}
+use Rattle.header.specs.declared.Registers.{Registers}
+use Rattle.header.specs.declared.Saved.{Saved}
+use Rattle.header.specs.Header.{Word, below, holds, headed, wordIn, resumed}
+
+-- numbers of the widths that 01 gives the registers
+pub record RegistersFit (r : Registers) : Type 0 where
+  pub eip : r .eip < 2 ^ 32
+  pub eflags : r .eflags < 2 ^ 32
+  pub cr0 : r .cr0 < 2 ^ 32
+  pub dr7 : r .dr7 < 2 ^ 32
+  pub selector : r .cs .selector < 2 ^ 16
+  pub descriptor : r .cs .descriptor < 2 ^ 64
+
+pub record SavedFits (s : Saved) : Type 0 where
+  pub registers : RegistersFit (s .registers)
+  pub current : s .current < 2 ^ 32
+  pub next : s .next < 2 ^ 32
+  pub transfer : s .trap .transfer < 2 ^ 32
+  pub value : s .trap .value < 2 ^ 32
+  pub index : s .trap .index < 2 ^ 32
+
+-- the same registers with another EIP
+abbrev pub withEip : Registers → ℕ → Registers
+withEip r eip = record { eip = eip; eflags = r .eflags; cr0 = r .cr0; dr7 = r .dr7; cs = r .cs; level = r .level; writable = r .writable }
+
+-- every word of the table is found at its offset with what it was written to hold
+abbrev pub WordsReadBack : Type 0
+WordsReadBack =
+    (g : List ℕ) (at : ℕ) (s : Saved) → at + 48 ≤ length g → SavedFits s → (w : Word) → wordIn (headed g at s) at w ≡ holds s w
+
+-- "resume reads those bytes back into the registers they came from", with next IP as EIP
+abbrev pub RegistersReadBack : Type 0
+RegistersReadBack =
+    (g : List ℕ) (at : ℕ) (s : Saved) → at + 48 ≤ length g → SavedFits s
+    → resumed (headed g at s) at ≡ withEip (s .registers) (s .next)
