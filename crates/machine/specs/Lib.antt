@@ -1,0 +1,4 @@
+pub mod Machines
+pub mod Outcomes
+pub mod Service
+pub mod Steps

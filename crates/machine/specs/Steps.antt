@@ -1,0 +1,131 @@
+-- 01, "The steps" and "Numbers the bench sees": one step of a machine over its two memories, and a list of them.
+use Prim.Native.Nat.{ℕ}
+use mathlib.Core.Bool.{Bool, true, false, cond, not, _&&_, _||_}
+use mathlib.Core.List.{List, [], _∷_}
+use lib.Dec.{eqb, leb}
+use lib.ListN.{length}
+use Rattle.region.specs.declared.Region.{Region}
+use Rattle.memory.specs.Memory.{Memories, allThere, load, store, operandLength, segmentAt, storeSegment}
+use Rattle.steps.specs.declared.Answer.{Answer}
+use Rattle.steps.specs.declared.Answer.the-variants.{Done, WrongSize, Malformed, WhileHalted, Invalid, Absent, Value}
+use Rattle.steps.specs.declared.Step.{Step}
+use Rattle.steps.specs.declared.Step.the-variants.{Reset, Registers, Read, Write, PortRead, PortWrite, Opcode, Boundary, UnnamedBoundary, Halt, Wake}
+use Rattle.steps.specs.Steps.{malformed, interrupts, program}
+use Rattle.config.specs.Settings.{windowOf}
+use Rattle.config.specs.Ports.{portRead, portWrite}
+use Rattle.config.specs.declared.Accessed.{Accessed}
+use Rattle.header.specs.Header.{levelOf}
+use Rattle.opcodes.specs.declared.Operation.{Operation}
+use Rattle.opcodes.specs.declared.Operation.the-variants.{Save, Restore, Smint, Rsm, Undefined}
+use Rattle.opcodes.specs.Decode.{decoded, allowed, hasOperand}
+use Rattle.machine.specs.declared.Machine.{Machine}
+use Rattle.machine.specs.declared.Stepped.{Stepped}
+use Rattle.machine.specs.Machines.{withRegisters, withHalted, withConfig, withEip, segmentIn, withSegment, segment, resetMachine}
+use Rattle.machine.specs.Outcomes.{Outcome, gives, ends}
+use Rattle.machine.specs.Service.{settingsOf, entryBySmint, boundary, resume, permitted}
+
+-- 1: "Main memory ... may be 0 to 1,048,576 bytes. Management memory is exactly 65,536 bytes."
+unfoldable pub wrongSizes : Memories → Bool
+wrongSizes x = not (leb (length (x .main)) 1048576 && eqb (length (x .management)) 65536)
+
+-- 2: "malformed step: a width, size, level or yes/no value outside its set, or an interruption other than none while halted"
+unfoldable pub malformedOn : Machine → Step → Bool
+malformedOn m s = malformed s || (m .halted && interrupts s)
+
+-- 3: "program step (registers, data, port, opcode, halt) while halted"
+unfoldable pub programWhileHalted : Machine → Step → Bool
+programWhileHalted m s = m .halted && program s
+
+-- 4: "invalid opcode"
+unfoldable pub invalid : Machine → Operation → Bool
+invalid m o = not (permitted m && allowed (m .inside) o)
+
+-- "Routing": the region whose bytes management memory answers
+abbrev pub window : Machine → Region
+window m = windowOf (settingsOf m) (m .inside)
+
+-- 5: "a data or operand byte routed to main beyond its end, or above FFFFFFFFh"
+unfoldable pub anyAbsent : Machine → Memories → ℕ → ℕ → Bool
+anyAbsent m x a count = not (allThere (window m) (length (x .main)) a count)
+
+-- a refusal: "machine and memories stay"
+abbrev pub refused : Machine → Memories → Answer → Outcome
+refused m x a = ends (gives m a) x
+
+-- "Registers. Sets EIP, EFLAGS, CR0, DR7, CS, level and writable from the step."
+abbrev pub setRegisters : Machine → ℕ → ℕ → ℕ → ℕ → ℕ → ℕ → ℕ → ℕ → Machine
+setRegisters m eip eflags cr0 dr7 selector descriptor level writable =
+    withRegisters m (record {
+      eip = eip;
+      eflags = eflags;
+      cr0 = cr0;
+      dr7 = dr7;
+      cs = segment selector descriptor;
+      level = levelOf level;
+      writable = eqb writable 1;
+    })
+
+-- "Data read or write. Width 1, 2 or 4, little-endian, low bytes of the value."
+unfoldable pub dataRead : Machine → Memories → ℕ → ℕ → Stepped
+dataRead m x width a = cond (anyAbsent m x a width) (gives m Absent) (gives m (Value (load (window m) x a width)))
+
+unfoldable pub dataWrite : Machine → Memories → ℕ → ℕ → ℕ → Outcome
+dataWrite m x width a v = cond (anyAbsent m x a width) (refused m x Absent) (ends (gives m Done) (store (window m) x a width v))
+
+-- "Port read or write, one byte."
+abbrev pub ported : Machine → Accessed → Stepped
+ported m p = gives (withConfig m (p .config)) (p .answer)
+
+-- "On success of one of these six EIP becomes the next address."
+abbrev pub advanced : Machine → ℕ → Machine
+advanced m next = withRegisters m (withEip (m .registers) next)
+
+-- a valid operation. "The operand is 10 bytes"; SMINT and RSM have none.
+unfoldable pub operated : Machine → Memories → Operation → ℕ → ℕ → Outcome
+operated m x (Save name) a next =
+    cond (anyAbsent m x a operandLength) (refused m x Absent)
+    (ends (gives (advanced m next) Done) (storeSegment (window m) x a (segmentIn m name)))
+operated m x (Restore name) a next =
+    cond (anyAbsent m x a operandLength) (refused m x Absent)
+    (ends (gives (advanced (withSegment m name (segmentAt (window m) x a)) next) Done) x)
+operated m x Smint a next = entryBySmint m x next
+operated m x Rsm a next = ends (resume m (x .management)) x
+operated m x Undefined a next = refused m x Invalid
+
+unfoldable pub opcode : Machine → Memories → Operation → ℕ → ℕ → Outcome
+opcode m x o a next = cond (invalid m o) (refused m x Invalid) (operated m x o a next)
+
+-- a step that is neither malformed nor refused while halted, on memories of the right sizes
+unfoldable pub performed : Machine → Memories → Step → Outcome
+performed m x Reset = ends (gives resetMachine Done) x
+performed m x (Registers eip eflags cr0 dr7 selector descriptor level writable) =
+    ends (gives (setRegisters m eip eflags cr0 dr7 selector descriptor level writable) Done) x
+performed m x (Read width a) = ends (dataRead m x width a) x
+performed m x (Write width a v) = dataWrite m x width a v
+performed m x (PortRead port) = ends (ported m (portRead (m .config) port)) x
+performed m x (PortWrite port v) = ends (ported m (portWrite (m .config) port v (m .inside))) x
+performed m x (Opcode op modrm a next) = opcode m x (decoded op modrm) a next
+performed m x (Boundary smi current i) = boundary m x (eqb smi 1) current i
+performed m x UnnamedBoundary = refused m x Malformed
+performed m x Halt = ends (gives (withHalted m true) Done) x
+performed m x Wake = ends (gives (withHalted m false) Done) x
+
+-- "Numbers 1 to 5 are refusals, tested in that order; machine and memories stay."
+unfoldable pub stepped : Machine → Memories → Step → Outcome
+stepped m x s =
+    cond (wrongSizes x) (refused m x WrongSize)
+    (cond (malformedOn m s) (refused m x Malformed)
+    (cond (programWhileHalted m s) (refused m x WhileHalted) (performed m x s)))
+
+-- a list of steps, "each step on what the one before left": the last machine and memories, and every answer in order
+pub record Run : Type 0 where
+  pub machine : Machine
+  pub memory : Memories
+  pub answers : List Answer
+
+unfoldable pub run : Machine → Memories → List Step → Run
+run m x [] = record { machine = m; memory = x; answers = [] }
+run m x (s ∷ ss) =
+    let o = stepped m x s in
+    let r = run (o .stepped .machine) (o .memory) ss in
+    record { machine = r .machine; memory = r .memory; answers = o .stepped .answer ∷ r .answers }
