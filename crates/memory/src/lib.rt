@@ -200,7 +200,8 @@ pub fn write_segment(
     ensures wrote { λ r. ⌜ memories (now (main .exit)) (now (management .exit))
         ≡ writesSegment window (memories (now (main .entry)) (now (management .entry))) address s ⌝ }
 {
-    if all_there(window, main.len(), address, 10) {
+    let end = main.len();
+    if all_there(window, end, address, 10) {
         store_at(window, main, management, address as u64, 8, s.descriptor);
         store_at(
             window,
