@@ -76,7 +76,7 @@ module _ (w : Region) (x : Memories) (a : ℕ) where
   load-turn n i v b h k e f =
       let p : n - (i - 1) ≡ suc (n - i) = omega arith in
       let q : a + (i - 1) + 1 ≡ a + i = omega arith in
-      rw (p, q) (omega arith)
+      rw p (omega (arith, ap (λ (j : ℕ). load w x j (n - i)) q))
 
   pub load-none : (n : ℕ) → load w x (a + n) (n - n) ≡ 0
   unfolding load

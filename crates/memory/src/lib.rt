@@ -1,7 +1,7 @@
 ghost use mathlib.Core.Path.{_≡_};
 ghost use Prim.Native.Nat.{_^_, _≤_, _<_, min};
 ghost use lib.ListN.{length};
-ghost use Rattle.memory.specs.Memory.{memories, byteAt, storeByte, absent, allThere, load, store, operandLength, segmentAt, storeSegment, reads, writes, readsSegment, writesSegment};
+ghost use Rattle.memory.specs.Memory.{memories, byteAt, storeByte, absent, allThere, load, store, operandLength, reads, writes, readsSegment, writesSegment};
 use region::Region;
 
 // A segment register: in memory the descriptor's eight bytes, and then the selector's two.

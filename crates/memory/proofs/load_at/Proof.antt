@@ -56,7 +56,7 @@ loop-again c =
     let n = b .before .before .before .args .count in
     let r = c .byte-at .result in (
       omega arith,
-      grows (l .value) r n (l .i) (omega arith) (omega arith) (l .inv .1) (omega arith),
+      omega (arith, grows (l .value) r n (l .i) (omega arith) (omega arith) (l .inv .1) (omega arith)),
       load-turn _ _ _ n (l .i) (l .value) r (omega arith) (omega arith) (l .inv .2) (c .byte-at .ensures),
     )
 

@@ -42,8 +42,8 @@ loop-again c =
     let l = b .before .before .before .before .loop in
     let s = b .store-byte in (
       omega arith,
-      s .kept .1 .0 ∙ l .inv .1,
-      s .kept .1 .1 .0 ∙ l .inv .2,
+      omega (arith, s .kept .1 .0, s .kept .1 .1 .0),
+      omega (arith, s .kept .1 .0, s .kept .1 .1 .0),
       store-turn _ (memories (l .main) (l .management)) (l .at) _ _ (l .left) (l .rest) (omega arith) (s .ensures) (l .inv .3),
     )
 
