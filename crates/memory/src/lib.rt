@@ -1,7 +1,7 @@
 ghost use mathlib.Core.Path.{_≡_};
 ghost use Prim.Native.Nat.{_^_, _≤_, _<_, min};
 ghost use lib.ListN.{length};
-ghost use Rattle.memory.specs.Memory.{memories, byteAt, storeByte, absent, allThere, load, store, operandLength, segmentAt, storeSegment, reads, writes, readsSegment, writesSegment};
+ghost use Rattle.memory.specs.Memory.{memories, byteAt, storeByte, absent, allThere, load, store, operandLength, reads, writes, readsSegment, writesSegment};
 use region::Region;
 
 // A segment register: in memory the descriptor's eight bytes, and then the selector's two.
@@ -200,7 +200,8 @@ pub fn write_segment(
     ensures wrote { λ r. ⌜ memories (now (main .exit)) (now (management .exit))
         ≡ writesSegment window (memories (now (main .entry)) (now (management .entry))) address s ⌝ }
 {
-    if all_there(window, main.len(), address, 10) {
+    let end = main.len();
+    if all_there(window, end, address, 10) {
         store_at(window, main, management, address as u64, 8, s.descriptor);
         store_at(
             window,
