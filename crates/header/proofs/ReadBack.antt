@@ -61,7 +61,7 @@ stored-word-at g ws at k h l f =
     let e2 : at + 4 * k + 2 ≡ at + (4 * k + 2) = omega arith in
     let e3 : at + 4 * k + 3 ≡ at + (4 * k + 3) = omega arith in
     let s : (j : ℕ) → j < 4 → getD (sets g at (bytesOf ws)) (at + (4 * k + j)) 0 ≡ getD (bytesOf ws) (4 * k + j) 0
-          = λ j m. stored-byte g (bytesOf ws) at (4 * k + j) (omega arith) (omega arith) in
+    = λ j m. stored-byte g (bytesOf ws) at (4 * k + j) (omega arith) (omega arith) in
     rw (e1, e2, e3, stored-byte g (bytesOf ws) at (4 * k) (omega arith) (omega arith), s 1 (omega arith), s 2 (omega arith), s 3 (omega arith)) (held ws k l f)
 
 bit-small : (b : Bool) → bit b < 2
@@ -131,9 +131,9 @@ registers-back g at s h f =
     let m = f .registers .selector in
     let selector : (r .cs .selector + 2097152 * levelNumber (r .level)) % 65536 ≡ r .cs .selector = omega arith in
     let level : (r .cs .selector + 2097152 * levelNumber (r .level)) / 2097152 % 4 ≡ levelNumber (r .level)
-          = let q : (r .cs .selector + 2097152 * levelNumber (r .level)) / 2097152 ≡ levelNumber (r .level) = omega arith in rw q (omega arith) in
+    = let q : (r .cs .selector + 2097152 * levelNumber (r .level)) / 2097152 ≡ levelNumber (r .level) = omega arith in rw q (omega arith) in
     let descriptor : r .cs .descriptor % 4294967296 + 4294967296 * (r .cs .descriptor / 4294967296) ≡ r .cs .descriptor = omega arith in
     let c : (bit (r .writable) + 2 * bit (t .output) + 4 * bit (t .rep) + 8 * bit (s .smint) + 16 * bit (s .halted)) % 2 ≡ bit (r .writable)
-          = omega (arith, bit-small (r .writable)) in
+    = omega (arith, bit-small (r .writable)) in
     rw (b Word.NextIp, b Word.Eflags, b Word.Cr0, b Word.Dr7, b Word.CsLevel, b Word.DescriptorLow, b Word.DescriptorHigh, b Word.Flags)
     (rw (selector, level, descriptor, c, level-back (r .level), bit-back (r .writable)))

@@ -16,6 +16,13 @@ gives m a = record { machine = m; answer = a }
 abbrev pub ends : Stepped → Memories → Outcome
 ends r x = record { stepped = r; memory = x }
 
--- what a step leaves that has no part in main memory
-abbrev pub managed : Stepped → List ℕ → Memories → Outcome
-managed r g x = ends r (memories (x .main) g)
+-- what a step leaves that main memory has no part in
+pub record Managed : Type 0 where
+  pub stepped : Stepped
+  pub management : List ℕ
+
+abbrev pub manages : Stepped → List ℕ → Managed
+manages r g = record { stepped = r; management = g }
+
+abbrev pub over : Memories → Managed → Outcome
+over x b = ends (b .stepped) (memories (x .main) (b .management))

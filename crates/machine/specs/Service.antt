@@ -1,13 +1,12 @@
 -- 01, "Boundary", "Opcode" and "Forty-eight bytes below the top": entry to management mode and the way back.
 use Prim.Native.Nat.{ℕ}
-use mathlib.Core.Bool.{Bool, true, false, cond, not, _&&_, _||_}
+use mathlib.Core.Bool.{Bool, true, false, cond, _&&_, _||_}
 use mathlib.Core.List.{List}
 use lib.Dec.{eqb}
 use Rattle.region.specs.Region.{usable}
 use Rattle.steps.specs.declared.Interruption.{Interruption}
 use Rattle.steps.specs.declared.Interruption.the-variants.{None}
 use Rattle.steps.specs.declared.Answer.the-variants.{Nothing, Ignored, Latched, Entered, Resumed}
-use Rattle.memory.specs.Memory.{Memories}
 use Rattle.config.specs.Settings.{useSmi, smac, regionIn, enabled, headerPlace}
 use Rattle.config.specs.declared.Settings.{Settings}
 use Rattle.header.specs.declared.Saved.{Saved}
@@ -16,7 +15,7 @@ use Rattle.header.specs.Entry.{entryRegisters}
 use Rattle.machine.specs.declared.Machine.{Machine}
 use Rattle.machine.specs.declared.Stepped.{Stepped}
 use Rattle.machine.specs.Machines.{machine, withLatched}
-use Rattle.machine.specs.Outcomes.{Outcome, gives, ends, managed}
+use Rattle.machine.specs.Outcomes.{gives, Managed, manages}
 
 abbrev pub settingsOf : Machine → Settings
 settingsOf m = m .config .settings
@@ -48,27 +47,27 @@ unfoldable pub enteredMachine : Machine → Bool → Machine
 enteredMachine m latched =
     machine (entryRegisters (m .registers) (regionIn (settingsOf m) .base)) (m .segments) false true latched (m .config)
 
-unfoldable pub entry : Machine → Memories → Saved → Bool → Outcome
-entry m x s latched =
-    managed (gives (enteredMachine m latched) Entered) (headed (x .management) (headerPlace (settingsOf m)) s) x
+-- "Header traffic always uses management memory."
+unfoldable pub entry : Machine → List ℕ → Saved → Bool → Managed
+entry m g s latched = manages (gives (enteredMachine m latched) Entered) (headed g (headerPlace (settingsOf m)) s)
 
 -- "Enabled with SMI asserted or latched: entry, and the latch clears"
-abbrev pub entryAtBoundary : Machine → Memories → ℕ → Interruption → Outcome
-entryAtBoundary m x current i = entry m x (savedAtBoundary m current i) false
+abbrev pub entryAtBoundary : Machine → List ℕ → ℕ → Interruption → Managed
+entryAtBoundary m g current i = entry m g (savedAtBoundary m current i) false
 
 -- "entry by SMINT keeps it"
-abbrev pub entryBySmint : Machine → Memories → ℕ → Outcome
-entryBySmint m x next = entry m x (savedBySmint m next) (m .latched)
+abbrev pub entryBySmint : Machine → List ℕ → ℕ → Managed
+entryBySmint m g next = entry m g (savedBySmint m next) (m .latched)
 
 -- "Inside the mode an asserted SMI sets the latch and answers latched, whether it was set before or not; an SMI not asserted answers
 -- nothing. Outside, ... Enabled with SMI asserted or latched: entry ... Not enabled and asserted: ignored, latch kept. Else nothing."
-unfoldable pub boundary : Machine → Memories → Bool → ℕ → Interruption → Outcome
-boundary m x asserted current i =
+unfoldable pub boundary : Machine → List ℕ → Bool → ℕ → Interruption → Managed
+boundary m g asserted current i =
     cond (m .inside)
-    (cond asserted (ends (gives (withLatched m true) Latched) x) (ends (gives m Nothing) x))
+    (cond asserted (manages (gives (withLatched m true) Latched) g) (manages (gives m Nothing) g))
     (cond (enabled (settingsOf m))
-    (cond (asserted || m .latched) (entryAtBoundary m x current i) (ends (gives m Nothing) x))
-    (ends (gives m (cond asserted Ignored Nothing)) x))
+    (cond (asserted || m .latched) (entryAtBoundary m g current i) (manages (gives m Nothing) g))
+    (manages (gives m (cond asserted Ignored Nothing)) g))
 
 -- "RSM loads DR7, EFLAGS, CR0, CS, level, C and EIP (from next IP) and leaves the mode, not halted."
 unfoldable pub resume : Machine → List ℕ → Stepped

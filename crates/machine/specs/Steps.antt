@@ -15,13 +15,14 @@ use Rattle.config.specs.Settings.{windowOf}
 use Rattle.config.specs.Ports.{portRead, portWrite}
 use Rattle.config.specs.declared.Accessed.{Accessed}
 use Rattle.header.specs.Header.{levelOf}
+use Rattle.opcodes.specs.declared.SegmentName.{SegmentName}
 use Rattle.opcodes.specs.declared.Operation.{Operation}
 use Rattle.opcodes.specs.declared.Operation.the-variants.{Save, Restore, Smint, Rsm, Undefined}
-use Rattle.opcodes.specs.Decode.{decoded, allowed, hasOperand}
+use Rattle.opcodes.specs.Decode.{decoded, allowed}
 use Rattle.machine.specs.declared.Machine.{Machine}
 use Rattle.machine.specs.declared.Stepped.{Stepped}
 use Rattle.machine.specs.Machines.{withRegisters, withHalted, withConfig, withEip, segmentIn, withSegment, segment, resetMachine}
-use Rattle.machine.specs.Outcomes.{Outcome, gives, ends}
+use Rattle.machine.specs.Outcomes.{Outcome, gives, ends, over}
 use Rattle.machine.specs.Service.{settingsOf, entryBySmint, boundary, resume, permitted}
 
 -- 1: "Main memory ... may be 0 to 1,048,576 bytes. Management memory is exactly 65,536 bytes."
@@ -36,17 +37,17 @@ malformedOn m s = malformed s || (m .halted && interrupts s)
 unfoldable pub programWhileHalted : Machine → Step → Bool
 programWhileHalted m s = m .halted && program s
 
--- 4: "invalid opcode"
-unfoldable pub invalid : Machine → Operation → Bool
-invalid m o = not (permitted m && allowed (m .inside) o)
+-- 4: "invalid opcode" is one that is not valid
+unfoldable pub valid : Machine → Operation → Bool
+valid m o = permitted m && allowed (m .inside) o
 
 -- "Routing": the region whose bytes management memory answers
 abbrev pub window : Machine → Region
 window m = windowOf (settingsOf m) (m .inside)
 
--- 5: "a data or operand byte routed to main beyond its end, or above FFFFFFFFh"
-unfoldable pub anyAbsent : Machine → Memories → ℕ → ℕ → Bool
-anyAbsent m x a count = not (allThere (window m) (length (x .main)) a count)
+-- 5: "a data or operand byte routed to main beyond its end, or above FFFFFFFFh", where not all are there
+unfoldable pub there : Machine → Memories → ℕ → ℕ → Bool
+there m x a count = allThere (window m) (length (x .main)) a count
 
 -- a refusal: "machine and memories stay"
 abbrev pub refused : Machine → Memories → Answer → Outcome
@@ -67,10 +68,10 @@ setRegisters m eip eflags cr0 dr7 selector descriptor level writable =
 
 -- "Data read or write. Width 1, 2 or 4, little-endian, low bytes of the value."
 unfoldable pub dataRead : Machine → Memories → ℕ → ℕ → Stepped
-dataRead m x width a = cond (anyAbsent m x a width) (gives m Absent) (gives m (Value (load (window m) x a width)))
+dataRead m x width a = cond (there m x a width) (gives m (Value (load (window m) x a width))) (gives m Absent)
 
 unfoldable pub dataWrite : Machine → Memories → ℕ → ℕ → ℕ → Outcome
-dataWrite m x width a v = cond (anyAbsent m x a width) (refused m x Absent) (ends (gives m Done) (store (window m) x a width v))
+dataWrite m x width a v = cond (there m x a width) (ends (gives m Done) (store (window m) x a width v)) (refused m x Absent)
 
 -- "Port read or write, one byte."
 abbrev pub ported : Machine → Accessed → Stepped
@@ -81,19 +82,27 @@ abbrev pub advanced : Machine → ℕ → Machine
 advanced m next = withRegisters m (withEip (m .registers) next)
 
 -- a valid operation. "The operand is 10 bytes"; SMINT and RSM have none.
-unfoldable pub operated : Machine → Memories → Operation → ℕ → ℕ → Outcome
-operated m x (Save name) a next =
-    cond (anyAbsent m x a operandLength) (refused m x Absent)
+unfoldable pub saved : Machine → Memories → SegmentName → ℕ → ℕ → Outcome
+saved m x name a next =
+    cond (there m x a operandLength)
     (ends (gives (advanced m next) Done) (storeSegment (window m) x a (segmentIn m name)))
-operated m x (Restore name) a next =
-    cond (anyAbsent m x a operandLength) (refused m x Absent)
-    (ends (gives (advanced (withSegment m name (segmentAt (window m) x a)) next) Done) x)
-operated m x Smint a next = entryBySmint m x next
+    (refused m x Absent)
+
+unfoldable pub restored : Machine → Memories → SegmentName → ℕ → ℕ → Stepped
+restored m x name a next =
+    cond (there m x a operandLength)
+    (gives (advanced (withSegment m name (segmentAt (window m) x a)) next) Done)
+    (gives m Absent)
+
+unfoldable pub operated : Machine → Memories → Operation → ℕ → ℕ → Outcome
+operated m x (Save name) a next = saved m x name a next
+operated m x (Restore name) a next = ends (restored m x name a next) x
+operated m x Smint a next = over x (entryBySmint m (x .management) next)
 operated m x Rsm a next = ends (resume m (x .management)) x
 operated m x Undefined a next = refused m x Invalid
 
 unfoldable pub opcode : Machine → Memories → Operation → ℕ → ℕ → Outcome
-opcode m x o a next = cond (invalid m o) (refused m x Invalid) (operated m x o a next)
+opcode m x o a next = cond (valid m o) (operated m x o a next) (refused m x Invalid)
 
 -- a step that is neither malformed nor refused while halted, on memories of the right sizes
 unfoldable pub performed : Machine → Memories → Step → Outcome
@@ -105,7 +114,7 @@ performed m x (Write width a v) = dataWrite m x width a v
 performed m x (PortRead port) = ends (ported m (portRead (m .config) port)) x
 performed m x (PortWrite port v) = ends (ported m (portWrite (m .config) port v (m .inside))) x
 performed m x (Opcode op modrm a next) = opcode m x (decoded op modrm) a next
-performed m x (Boundary smi current i) = boundary m x (eqb smi 1) current i
+performed m x (Boundary smi current i) = over x (boundary m (x .management) (eqb smi 1) current i)
 performed m x UnnamedBoundary = refused m x Malformed
 performed m x Halt = ends (gives (withHalted m true) Done) x
 performed m x Wake = ends (gives (withHalted m false) Done) x

@@ -53,11 +53,3 @@ allowed inside (Restore name) = true
 allowed inside Smint = not inside
 allowed inside Rsm = inside
 allowed inside Undefined = false
-
--- the operations that have an operand in memory
-abbrev pub hasOperand : Operation → Bool
-hasOperand (Save name) = true
-hasOperand (Restore name) = true
-hasOperand Smint = false
-hasOperand Rsm = false
-hasOperand Undefined = false

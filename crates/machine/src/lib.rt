@@ -1,0 +1,558 @@
+ghost use mathlib.Core.Path.{_≡_};
+ghost use mathlib.Core.Bool.{true, false, cond};
+ghost use Rattle.memory.specs.Memory.{memories};
+ghost use Rattle.steps.specs.Steps.{isWidth, malformed};
+ghost use Rattle.machine.specs.Machines.{withRegisters, withHalted, withLatched, segmentIn, withSegment, segment, resetMachine};
+ghost use Rattle.machine.specs.Outcomes.{gives, ends, manages};
+ghost use Rattle.machine.specs.Service.{enteredMachine, entry, entryAtBoundary, entryBySmint, boundary, resume, permitted};
+ghost use Rattle.machine.specs.Steps.{malformedOn, window, dataRead, dataWrite, ported, advanced, saved, restored, opcode, performed, stepped};
+use config::Accessed;
+use config::Config;
+use config::Settings;
+use header::Level;
+use header::Registers;
+use header::Saved;
+use memory::Loaded;
+use memory::Operand;
+use memory::Segment;
+use opcodes::Operation;
+use opcodes::SegmentName;
+use region::Region;
+use steps::Answer;
+use steps::Interruption;
+use steps::Step;
+
+pub struct Segments {
+    pub ds: Segment,
+    pub es: Segment,
+    pub fs: Segment,
+    pub gs: Segment,
+    pub ss: Segment,
+    pub ldtr: Segment,
+    pub tr: Segment,
+}
+
+pub struct Machine {
+    pub registers: Registers,
+    pub segments: Segments,
+    pub halted: bool,
+    pub inside: bool,
+    pub latched: bool,
+    pub config: Config,
+}
+
+// The next machine, beside the answer.
+pub struct Stepped {
+    pub machine: Machine,
+    pub answer: Answer,
+}
+
+fn segment_of(selector: u16, descriptor: u64) -> Segment
+    ensures { λ r. ⌜ r ≡ segment selector descriptor ⌝ }
+{
+    Segment {
+        selector: selector,
+        descriptor: descriptor,
+    }
+}
+
+// The machine after a reset.
+pub fn reset() -> Machine
+    ensures { λ r. ⌜ r ≡ resetMachine ⌝ }
+{
+    let cs = segment_of(0xF000, 0xFF0093FF0000FFFF);
+    let flat = segment_of(0, 0x000093000000FFFF);
+    let none = segment_of(0, 0);
+    let registers = Registers {
+        eip: 0xFFF0,
+        eflags: 2,
+        cr0: 0x60000010,
+        dr7: 0x400,
+        cs: cs,
+        level: Level::Zero,
+        writable: true,
+    };
+    let segments = Segments {
+        ds: flat,
+        es: flat,
+        fs: flat,
+        gs: flat,
+        ss: flat,
+        ldtr: none,
+        tr: none,
+    };
+    let settings = Settings {
+        ccr1: 0,
+        ccr3: 0,
+        high: 0,
+        middle: 0,
+        low: 0,
+    };
+    let config = Config {
+        settings: settings,
+        index: 0,
+        armed: false,
+    };
+    Machine {
+        registers: registers,
+        segments: segments,
+        halted: false,
+        inside: false,
+        latched: false,
+        config: config,
+    }
+}
+
+impl Machine {
+    fn answers(self, answer: Answer) -> Stepped
+        ensures { λ r. ⌜ r ≡ gives self answer ⌝ }
+    {
+        Stepped {
+            machine: self,
+            answer: answer,
+        }
+    }
+
+    fn with_halted(self, halted: bool) -> Machine
+        ensures { λ r. ⌜ r ≡ withHalted self halted ⌝ }
+    {
+        let mut next = self;
+        next.halted = halted;
+        next
+    }
+
+    fn with_latched(self, latched: bool) -> Machine
+        ensures { λ r. ⌜ r ≡ withLatched self latched ⌝ }
+    {
+        let mut next = self;
+        next.latched = latched;
+        next
+    }
+
+    fn set_registers(self, registers: Registers) -> Machine
+        ensures { λ r. ⌜ r ≡ withRegisters self registers ⌝ }
+    {
+        let mut next = self;
+        next.registers = registers;
+        next
+    }
+
+    // The machine with another EIP.
+    fn advance(self, next: u32) -> Machine
+        ensures { λ r. ⌜ r ≡ advanced self next ⌝ }
+    {
+        let mut registers = self.registers;
+        registers.eip = next;
+        self.set_registers(registers)
+    }
+
+    fn segment(self, name: SegmentName) -> Segment
+        ensures { λ r. ⌜ r ≡ segmentIn self name ⌝ }
+    {
+        let s = self.segments;
+        let r = self.registers;
+        match name {
+            SegmentName::Es => s.es,
+            SegmentName::Cs => r.cs,
+            SegmentName::Ss => s.ss,
+            SegmentName::Ds => s.ds,
+            SegmentName::Fs => s.fs,
+            SegmentName::Gs => s.gs,
+            SegmentName::Ldtr => s.ldtr,
+            SegmentName::Tr => s.tr,
+        }
+    }
+
+    fn set_segment(self, name: SegmentName, value: Segment) -> Machine
+        ensures { λ r. ⌜ r ≡ withSegment self name value ⌝ }
+    {
+        let mut next = self;
+        let mut s = self.segments;
+        match name {
+            SegmentName::Es => {
+                s.es = value;
+            }
+            SegmentName::Cs => {
+                let mut r = self.registers;
+                r.cs = value;
+                next.registers = r;
+            }
+            SegmentName::Ss => {
+                s.ss = value;
+            }
+            SegmentName::Ds => {
+                s.ds = value;
+            }
+            SegmentName::Fs => {
+                s.fs = value;
+            }
+            SegmentName::Gs => {
+                s.gs = value;
+            }
+            SegmentName::Ldtr => {
+                s.ldtr = value;
+            }
+            SegmentName::Tr => {
+                s.tr = value;
+            }
+        }
+        next.segments = s;
+        next
+    }
+
+    // The machine after entry.
+    fn entered(self, latched: bool) -> Machine
+        ensures { λ r. ⌜ r ≡ enteredMachine self latched ⌝ }
+    {
+        let config = self.config;
+        let settings = config.settings;
+        let area = settings.region();
+        let before = self.registers;
+        let mut next = self.set_registers(header::entry_registers(before, area.base));
+        next.halted = false;
+        next.inside = true;
+        next.latched = latched;
+        next
+    }
+
+    // Entry: the header is written, and the machine goes to the handler.
+    fn enter(self, management: &mut [u8], saved: Saved, latched: bool) -> Stepped
+        ensures { λ r. ⌜ manages r (now (management .exit)) ≡ entry self (now (management .entry)) saved latched ⌝ }
+    {
+        let config = self.config;
+        let settings = config.settings;
+        header::write(management, settings.header_place(), saved);
+        self.entered(latched).answers(Answer::Entered)
+    }
+
+    fn enter_at_boundary(
+        self,
+        management: &mut [u8],
+        current: u32,
+        interruption: Interruption,
+    ) -> Stepped
+        ensures { λ r. ⌜ manages r (now (management .exit)) ≡ entryAtBoundary self (now (management .entry)) current interruption ⌝ }
+    {
+        let registers = self.registers;
+        let trap = header::trap_of(interruption);
+        let saved = Saved {
+            registers: registers,
+            current: either(self.halted, registers.eip, current),
+            next: registers.eip,
+            trap: trap,
+            smint: false,
+            halted: self.halted,
+        };
+        self.enter(management, saved, false)
+    }
+
+    // SMINT, which keeps the latch.
+    fn enter_by_smint(self, management: &mut [u8], next: u32) -> Stepped
+        ensures { λ r. ⌜ manages r (now (management .exit)) ≡ entryBySmint self (now (management .entry)) next ⌝ }
+    {
+        let registers = self.registers;
+        let trap = header::trap_of(Interruption::None);
+        let saved = Saved {
+            registers: registers,
+            current: registers.eip,
+            next: next,
+            trap: trap,
+            smint: true,
+            halted: self.halted,
+        };
+        self.enter(management, saved, self.latched)
+    }
+
+    fn boundary(
+        self,
+        management: &mut [u8],
+        asserted: bool,
+        current: u32,
+        interruption: Interruption,
+    ) -> Stepped
+        ensures { λ r. ⌜ manages r (now (management .exit)) ≡ boundary self (now (management .entry)) asserted current interruption ⌝ }
+    {
+        if self.inside {
+            if asserted {
+                return self.with_latched(true).answers(Answer::Latched);
+            }
+            return self.answers(Answer::Nothing);
+        }
+        let config = self.config;
+        let settings = config.settings;
+        if settings.enables_smi() {
+            if asserted {
+                return self.enter_at_boundary(management, current, interruption);
+            }
+            if self.latched {
+                return self.enter_at_boundary(management, current, interruption);
+            }
+            return self.answers(Answer::Nothing);
+        }
+        if asserted {
+            return self.answers(Answer::Ignored);
+        }
+        self.answers(Answer::Nothing)
+    }
+
+    // RSM.
+    fn resume(self, management: &[u8]) -> Stepped
+        ensures { λ r. ⌜ r ≡ resume self (now (management .entry)) ⌝ }
+    {
+        let config = self.config;
+        let settings = config.settings;
+        let registers = header::read(management, settings.header_place());
+        let mut next = self.set_registers(registers);
+        next.halted = false;
+        next.inside = false;
+        next.answers(Answer::Resumed)
+    }
+
+    // Whether the opcodes are valid on this machine at all.
+    fn permits(self) -> bool
+        ensures { λ r. ⌜ r ≡ permitted self ⌝ }
+    {
+        let config = self.config;
+        let settings = config.settings;
+        if settings.use_smi() {
+            let area = settings.region();
+            if area.is_usable() {
+                let registers = self.registers;
+                let level = registers.level;
+                if header::level_number(level) == 0 {
+                    if self.inside {
+                        return true;
+                    }
+                    return settings.smac();
+                }
+                return false;
+            }
+            return false;
+        }
+        false
+    }
+
+    fn window(self) -> Region
+        ensures { λ r. ⌜ r ≡ window self ⌝ }
+    {
+        let config = self.config;
+        let settings = config.settings;
+        settings.window(self.inside)
+    }
+
+    fn read(self, main: &[u8], management: &[u8], width: u8, address: u32) -> Stepped
+        requires { ⌜ isWidth width ≡ true ⌝ }
+        ensures { λ r. ⌜ r ≡ dataRead self (memories (now (main .entry)) (now (management .entry))) width address ⌝ }
+    {
+        match memory::read(self.window(), main, management, address, width) {
+            Loaded::Value(v) => self.answers(Answer::Value(v)),
+            Loaded::Beyond => self.answers(Answer::Absent),
+        }
+    }
+
+    fn write(
+        self,
+        main: &mut [u8],
+        management: &mut [u8],
+        width: u8,
+        address: u32,
+        value: u32,
+    ) -> Stepped
+        ensures { λ r. ⌜ ends r (memories (now (main .exit)) (now (management .exit)))
+            ≡ dataWrite self (memories (now (main .entry)) (now (management .entry))) width address value ⌝ }
+    {
+        if memory::write(self.window(), main, management, address, width, value) {
+            return self.answers(Answer::Done);
+        }
+        self.answers(Answer::Absent)
+    }
+
+    // SVDC, SVLDT and SVTS.
+    fn save(
+        self,
+        main: &mut [u8],
+        management: &mut [u8],
+        name: SegmentName,
+        address: u32,
+        next: u32,
+    ) -> Stepped
+        ensures { λ r. ⌜ ends r (memories (now (main .exit)) (now (management .exit)))
+            ≡ saved self (memories (now (main .entry)) (now (management .entry))) name address next ⌝ }
+    {
+        let s = self.segment(name);
+        if memory::write_segment(self.window(), main, management, address, s) {
+            return self.advance(next).answers(Answer::Done);
+        }
+        self.answers(Answer::Absent)
+    }
+
+    // RSDC, RSLDT and RSTS.
+    fn restore(
+        self,
+        main: &[u8],
+        management: &[u8],
+        name: SegmentName,
+        address: u32,
+        next: u32,
+    ) -> Stepped
+        ensures { λ r. ⌜ r ≡ restored self (memories (now (main .entry)) (now (management .entry))) name address next ⌝ }
+    {
+        match memory::read_segment(self.window(), main, management, address) {
+            Operand::Whole(s) => self.set_segment(name, s)
+                .advance(next)
+                .answers(Answer::Done),
+            Operand::Cut => self.answers(Answer::Absent),
+        }
+    }
+
+    fn operate(
+        self,
+        main: &mut [u8],
+        management: &mut [u8],
+        o: Operation,
+        address: u32,
+        next: u32,
+    ) -> Stepped
+        ensures { λ r. ⌜ ends r (memories (now (main .exit)) (now (management .exit)))
+            ≡ opcode self (memories (now (main .entry)) (now (management .entry))) o address next ⌝ }
+    {
+        if self.permits() {
+            return match o {
+                Operation::Save(name) => self.save(main, management, name, address, next),
+                Operation::Restore(name) => self.restore(main, management, name, address, next),
+                Operation::Smint => {
+                    if self.inside {
+                        return self.answers(Answer::Invalid);
+                    }
+                    self.enter_by_smint(management, next)
+                }
+                Operation::Rsm => {
+                    if self.inside {
+                        return self.resume(management);
+                    }
+                    self.answers(Answer::Invalid)
+                }
+                Operation::Undefined => self.answers(Answer::Invalid),
+            };
+        }
+        self.answers(Answer::Invalid)
+    }
+
+    // The machine after a port access, and the answer.
+    fn ported(self, access: Accessed) -> Stepped
+        ensures { λ r. ⌜ r ≡ ported self access ⌝ }
+    {
+        let mut next = self;
+        let config = access.config;
+        next.config = config;
+        let answer = access.answer;
+        next.answers(answer)
+    }
+
+    // A step that is not malformed, and not refused while halted, on memories of the right sizes.
+    fn perform(self, main: &mut [u8], management: &mut [u8], s: Step) -> Stepped
+        requires { ⌜ malformed s ≡ false ⌝ }
+        ensures { λ r. ⌜ ends r (memories (now (main .exit)) (now (management .exit)))
+            ≡ performed self (memories (now (main .entry)) (now (management .entry))) s ⌝ }
+    {
+        match s {
+            Step::Reset => reset().answers(Answer::Done),
+            Step::Registers {
+                eip,
+                eflags,
+                cr0,
+                dr7,
+                selector,
+                descriptor,
+                level,
+                writable,
+            } => {
+                let cs = segment_of(selector, descriptor);
+                let l = header::level_of(level);
+                let registers = Registers {
+                    eip: eip,
+                    eflags: eflags,
+                    cr0: cr0,
+                    dr7: dr7,
+                    cs: cs,
+                    level: l,
+                    writable: writable == 1,
+                };
+                self.set_registers(registers).answers(Answer::Done)
+            }
+            Step::Read { width, address } => self.read(main, management, width, address),
+            Step::Write {
+                width,
+                address,
+                value,
+            } => self.write(main, management, width, address, value),
+            Step::PortRead { port } => {
+                let config = self.config;
+                self.ported(config.read(port))
+            }
+            Step::PortWrite { port, value } => {
+                let config = self.config;
+                self.ported(config.write(port, value, self.inside))
+            }
+            Step::Opcode {
+                opcode,
+                modrm,
+                address,
+                next,
+            } => self.operate(
+                main,
+                management,
+                opcodes::decode(opcode, modrm),
+                address,
+                next,
+            ),
+            Step::Boundary {
+                smi,
+                current,
+                interruption,
+            } => self.boundary(management, smi == 1, current, interruption),
+            Step::UnnamedBoundary => self.answers(Answer::Malformed),
+            Step::Halt => self.with_halted(true).answers(Answer::Done),
+            Step::Wake => self.with_halted(false).answers(Answer::Done),
+        }
+    }
+
+    // Whether the step is malformed for this machine.
+    fn finds_malformed(self, s: Step) -> bool
+        ensures { λ r. ⌜ r ≡ malformedOn self s ⌝ }
+    {
+        if s.is_malformed() {
+            return true;
+        }
+        if self.halted { s.interrupts() } else { false }
+    }
+
+    // One step. Refusals are tested in the order of their numbers.
+    pub fn step(self, main: &mut [u8], management: &mut [u8], s: Step) -> Stepped
+        ensures { λ r. ⌜ ends r (memories (now (main .exit)) (now (management .exit)))
+            ≡ stepped self (memories (now (main .entry)) (now (management .entry))) s ⌝ }
+    {
+        if 1048576 < main.len() {
+            return self.answers(Answer::WrongSize);
+        }
+        if management.len() != 65536 {
+            return self.answers(Answer::WrongSize);
+        }
+        if self.finds_malformed(s) {
+            return self.answers(Answer::Malformed);
+        }
+        if self.halted {
+            if s.is_program() {
+                return self.answers(Answer::WhileHalted);
+            }
+            return self.perform(main, management, s);
+        }
+        self.perform(main, management, s)
+    }
+}
+
+fn either(b: bool, x: u32, y: u32) -> u32
+    ensures { λ r. ⌜ r ≡ cond b x y ⌝ }
+{
+    if b { x } else { y }
+}
