@@ -1,5 +1,5 @@
 -- 01, "Port read or write": the configuration index, and what ports 22h and 23h do.
-use Prim.Native.Nat.{ℕ, _/_}
+use Prim.Native.Nat.{ℕ}
 use mathlib.Core.Bool.{Bool, true, false, cond, _&&_, _||_}
 use lib.Dec.{eqb, leb}
 use Rattle.steps.specs.declared.Answer.{Answer}

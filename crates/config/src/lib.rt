@@ -1,8 +1,9 @@
 ghost use mathlib.Core.Path.{_≡_};
-ghost use mathlib.Core.Bool.{cond};
-ghost use Prim.Native.Nat.{_<_, _≤_};
+ghost use mathlib.Core.Bool.{false, _&&_};
+ghost use lib.Dec.{eqb};
 ghost use Rattle.config.specs.Settings.{useSmi, smac, mmac, smiLock, regionIn, windowOf, enabled, headerPlace, byteOf, withByte, lockedBits, stickyBits, keptBits, merged, written};
 ghost use Rattle.config.specs.Ports.{internal, indexed, gives, portRead, portWrite};
+ghost use Rattle.steps.specs.declared.Answer.the-variants.{External};
 use region::Region;
 use steps::Answer;
 
@@ -110,17 +111,18 @@ impl Settings {
             base: r.base,
             code: 0,
         };
+        let smac = self.smac();
+        let mmac = self.mmac();
         if self.use_smi() {
             if inside {
-                if self.mmac() {
+                if mmac {
                     return none;
                 }
                 return r;
             }
-            if self.smac() {
+            if smac {
                 return r;
             }
-            return none;
         }
         none
     }
@@ -220,43 +222,57 @@ fn wide(x: u8) -> u32
 }
 
 impl Config {
+    // Whether an access reaches the index: port 23h, when armed.
+    fn is_reached(self, port: u16) -> bool
+        ensures { λ r. ⌜ r ≡ (eqb port 0x23 && self .armed) ⌝ }
+    {
+        if port == 0x23 {
+            return self.armed;
+        }
+        false
+    }
+
+    fn disarmed(self) -> Config
+        ensures { λ r. ⌜ r ≡ indexed (self .settings) (self .index) false ⌝ }
+    {
+        let mut next = self;
+        next.armed = false;
+        next
+    }
+
+    fn external(self) -> Accessed
+        ensures { λ r. ⌜ r ≡ gives self External ⌝ }
+    {
+        Accessed {
+            config: self,
+            answer: Answer::External,
+        }
+    }
+
     // A read of a port.
     pub fn read(self, port: u16) -> Accessed
         ensures { λ r. ⌜ r ≡ portRead self port ⌝ }
     {
-        let mut next = self;
-        if port != 0x23 {
-            return Accessed {
-                config: next,
-                answer: Answer::External,
-            };
-        }
-        if self.armed {
-            next.armed = false;
+        let after = self.disarmed();
+        if self.is_reached(port) {
             let index = self.index;
             let s = self.settings;
             if is_internal(index) {
                 return Accessed {
-                    config: next,
+                    config: after,
                     answer: Answer::Value(wide(s.byte(index))),
                 };
             }
-            return Accessed {
-                config: next,
-                answer: Answer::External,
-            };
+            return after.external();
         }
-        Accessed {
-            config: next,
-            answer: Answer::External,
-        }
+        self.external()
     }
 
     // A write to a port.
     pub fn write(self, port: u16, value: u8, inside: bool) -> Accessed
         ensures { λ r. ⌜ r ≡ portWrite self port value inside ⌝ }
     {
-        let mut next = self;
+        let mut next = self.disarmed();
         if port == 0x22 {
             next.index = value;
             next.armed = true;
@@ -265,32 +281,19 @@ impl Config {
                 answer: Answer::Done,
             };
         }
-        if port != 0x23 {
+        if !self.is_reached(port) {
+            return self.external();
+        }
+        let index = self.index;
+        let s = self.settings;
+        if is_internal(index) {
+            let after = s.write(index, value, inside);
+            next.settings = after;
             return Accessed {
                 config: next,
-                answer: Answer::External,
+                answer: Answer::Done,
             };
         }
-        if self.armed {
-            next.armed = false;
-            let index = self.index;
-            if is_internal(index) {
-                let s = self.settings;
-                let after = s.write(index, value, inside);
-                next.settings = after;
-                return Accessed {
-                    config: next,
-                    answer: Answer::Done,
-                };
-            }
-            return Accessed {
-                config: next,
-                answer: Answer::External,
-            };
-        }
-        Accessed {
-            config: next,
-            answer: Answer::External,
-        }
+        next.external()
     }
 }

@@ -1,0 +1,55 @@
+use Rattle.config.specs.Ports.{portWrite}
+use borrow.Author.Tests.{eq-eqb, ne-eqb, not-true, not-false}
+use mathlib.Core.Path.{sym, _∙_}
+use borrow.Author.Needs.{needs}
+use Rattle.config.proofs.Config.write.Statement.{statement}
+use Rattle.config.proofs.Config.write.Tie as tie
+
+disarmed-requires : tie.Need-disarmed-requires
+disarmed-requires c κs = search needs
+
+returns : tie.Need-returns
+unfolding portWrite
+returns c = simp (c .before .disarmed .ensures, eq-eqb _ _ (c .if1 .taken))
+
+is-reached-requires : tie.Need-is-reached-requires
+is-reached-requires c κs = search needs
+
+external-requires : tie.Need-external-requires
+external-requires c κs = search needs
+
+returns-2 : tie.Need-returns-2
+unfolding portWrite
+returns-2 c = simp (c .external .ensures, ne-eqb _ _ (c .before .before .before .if1 .left), sym (c .before .before .is-reached .ensures) ∙ not-true _ (c .before .if2 .taken))
+
+is-internal-requires : tie.Need-is-internal-requires
+is-internal-requires c κs = search needs
+
+write-requires : tie.Need-write-requires
+write-requires c κs = search needs
+
+returns-3 : tie.Need-returns-3
+unfolding portWrite
+returns-3 c = simp (c .before .before .before .before .before .before .before .disarmed .ensures, ne-eqb _ _ (c .before .before .before .before .before .before .if1 .left), sym (c .before .before .before .before .before .is-reached .ensures) ∙ not-false _ (c .before .before .before .before .if2 .left), sym (c .before .before .is-internal .ensures) ∙ c .before .if3 .taken) (rw (c .write .ensures))
+
+external-requires-2 : tie.Need-external-requires-2
+external-requires-2 c κs = search needs
+
+returns-4 : tie.Need-returns-4
+unfolding portWrite
+returns-4 c = simp (c .external2 .ensures, c .before .before .before .before .before .before .before .disarmed .ensures, ne-eqb _ _ (c .before .before .before .before .before .before .if1 .left), sym (c .before .before .before .before .before .is-reached .ensures) ∙ not-false _ (c .before .before .before .before .if2 .left), sym (c .before .before .is-internal .ensures) ∙ c .before .if3 .left)
+
+pub write-spec : {M : Type 1} → statement M
+write-spec =
+    tie.close
+    (tie.spec
+    disarmed-requires
+    returns
+    is-reached-requires
+    external-requires
+    returns-2
+    is-internal-requires
+    write-requires
+    returns-3
+    external-requires-2
+    returns-4)

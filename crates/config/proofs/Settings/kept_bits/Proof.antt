@@ -1,0 +1,37 @@
+use mathlib.Core.Path.{sym, _∙_}
+use Rattle.config.specs.Settings.{keptBits}
+use borrow.Author.Needs.{needs}
+use Rattle.config.proofs.Settings.kept_bits.Statement.{statement}
+use Rattle.config.proofs.Settings.kept_bits.Tie as tie
+
+smi-lock-requires : tie.Need-smi-lock-requires
+smi-lock-requires c κs = search needs
+
+sticky-bits-requires : tie.Need-sticky-bits-requires
+sticky-bits-requires c κs = search needs
+
+returns : tie.Need-returns
+unfolding keptBits
+returns c = simp (sym (c .before .before .before .smi-lock .ensures) ∙ c .before .before .if1 .taken, c .before .if2 .taken) (c .sticky-bits .ensures)
+
+locked-bits-requires : tie.Need-locked-bits-requires
+locked-bits-requires c κs = search needs
+
+returns-2 : tie.Need-returns-2
+unfolding keptBits
+returns-2 c = simp (sym (c .before .before .before .smi-lock .ensures) ∙ c .before .before .if1 .taken, c .before .if2 .left) (c .locked-bits .ensures)
+
+returns-3 : tie.Need-returns-3
+unfolding keptBits
+returns-3 c = simp (sym (c .before .smi-lock .ensures) ∙ c .if1 .left)
+
+pub kept-bits-spec : {M : Type 1} → statement M
+kept-bits-spec =
+    tie.close
+    (tie.spec
+    smi-lock-requires
+    sticky-bits-requires
+    returns
+    locked-bits-requires
+    returns-2
+    returns-3)

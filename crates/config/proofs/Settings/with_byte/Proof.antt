@@ -1,0 +1,32 @@
+use borrow.Author.Tests.{ne-eqb}
+use Rattle.config.specs.Settings.{withByte}
+use Rattle.config.proofs.Settings.with_byte.Statement.{statement}
+use Rattle.config.proofs.Settings.with_byte.Tie as tie
+
+returns : tie.Need-returns
+unfolding withByte
+returns c = rw (c .match .keys1)
+
+returns-2 : tie.Need-returns-2
+unfolding withByte
+returns-2 c = rw (c .match .keys2)
+
+returns-3 : tie.Need-returns-3
+unfolding withByte
+returns-3 c = rw (c .match .keys3)
+
+returns-4 : tie.Need-returns-4
+unfolding withByte
+returns-4 c = rw (c .match .keys4)
+
+returns-5 : tie.Need-returns-5
+unfolding withByte
+returns-5 c = rw (c .match .keys5)
+
+returns-6 : tie.Need-returns-6
+unfolding withByte
+returns-6 c = let r = c .match .rest in
+    simp (ne-eqb _ _ (r .1), ne-eqb _ _ (r .0 .1), ne-eqb _ _ (r .0 .0 .1), ne-eqb _ _ (r .0 .0 .0 .1), ne-eqb _ _ (r .0 .0 .0 .0 .1))
+
+pub with-byte-spec : {M : Type 1} → statement M
+with-byte-spec = tie.close (tie.spec returns returns-2 returns-3 returns-4 returns-5 returns-6)
