@@ -2,7 +2,7 @@ ghost use mathlib.Core.Path.{_≡_};
 ghost use mathlib.Core.Bool.{true, false, cond};
 ghost use Rattle.memory.specs.Memory.{memories};
 ghost use Rattle.steps.specs.Steps.{isWidth, malformed};
-ghost use Rattle.machine.specs.Machines.{withRegisters, withHalted, withLatched, segmentIn, withSegment, segment, resetMachine};
+ghost use Rattle.machine.specs.Machines.{withRegisters, withHalted, withLatched, withSegments, segmentIn, withSegment, segment, resetMachine};
 ghost use Rattle.machine.specs.Outcomes.{gives, ends, manages};
 ghost use Rattle.machine.specs.Service.{enteredMachine, entry, entryAtBoundary, entryBySmint, boundary, resume, permitted};
 ghost use Rattle.machine.specs.Steps.{malformedOn, window, dataRead, dataWrite, ported, advanced, saved, restored, opcode, performed, stepped};
@@ -163,41 +163,53 @@ impl Machine {
         }
     }
 
+    fn with_segments(self, segments: Segments) -> Machine
+        ensures { λ r. ⌜ r ≡ withSegments self segments ⌝ }
+    {
+        let mut next = self;
+        next.segments = segments;
+        next
+    }
+
     fn set_segment(self, name: SegmentName, value: Segment) -> Machine
         ensures { λ r. ⌜ r ≡ withSegment self name value ⌝ }
     {
-        let mut next = self;
         let mut s = self.segments;
+        let mut r = self.registers;
         match name {
             SegmentName::Es => {
                 s.es = value;
-            }
-            SegmentName::Cs => {
-                let mut r = self.registers;
-                r.cs = value;
-                next.registers = r;
+                self.with_segments(s)
             }
             SegmentName::Ss => {
                 s.ss = value;
+                self.with_segments(s)
             }
             SegmentName::Ds => {
                 s.ds = value;
+                self.with_segments(s)
             }
             SegmentName::Fs => {
                 s.fs = value;
+                self.with_segments(s)
             }
             SegmentName::Gs => {
                 s.gs = value;
+                self.with_segments(s)
             }
             SegmentName::Ldtr => {
                 s.ldtr = value;
+                self.with_segments(s)
             }
             SegmentName::Tr => {
                 s.tr = value;
+                self.with_segments(s)
+            }
+            SegmentName::Cs => {
+                r.cs = value;
+                self.set_registers(r)
             }
         }
-        next.segments = s;
-        next
     }
 
     // The machine after entry.
