@@ -13,8 +13,8 @@ use Rattle.header.specs.declared.Level.the-variants.{Zero, One, Two, Thr
 use Rattle.header.specs.declared.Registers.{Registers}
 use Rattle.header.specs.declared.Saved.{Saved}
 use Rattle.header.specs.Words.{number, wordBytes, bytesOf, wordAt}
-use Rattle.header.specs.Header.{Word, below, holds, upward, bit, levelNumber, levelOf, headerBytes, headed, wordIn, resumed}
-use Rattle.header.specs.ReadBack.{RegistersFit, SavedFits, withEip, WordsReadBack, RegistersReadBack}
+use Rattle.header.specs.Header.{Word, below, holds, upward, bit, levelNumber, levelOf, headerBytes, headed, wordIn, resumed, withEip}
+use Rattle.header.specs.ReadBack.{RegistersFit, SavedFits, WordsReadBack, RegistersReadBack}
 
 pub length-bytes : (ws : List ℕ) → length (bytesOf ws) ≡ 4 * length ws
 unfolding bytesOf wordBytes

@@ -119,3 +119,7 @@ resumed g at = record {
   level = levelOf (wordIn g at CsLevel / 2097152 % 4);
   writable = eqb (wordIn g at Flags % 2) 1;
 }
+
+-- the same registers with another EIP
+abbrev pub withEip : Registers → ℕ → Registers
+withEip r eip = record { eip = eip; eflags = r .eflags; cr0 = r .cr0; dr7 = r .dr7; cs = r .cs; level = r .level; writable = r .writable }

@@ -5,7 +5,7 @@ use mathlib.Core.List.{List}
 use lib.ListN.{length}
 use Rattle.header.specs.declared.Registers.{Registers}
 use Rattle.header.specs.declared.Saved.{Saved}
-use Rattle.header.specs.Header.{Word, below, holds, headed, wordIn, resumed}
+use Rattle.header.specs.Header.{Word, holds, headed, wordIn, resumed, withEip}
 
 -- numbers of the widths that 01 gives the registers
 pub record RegistersFit (r : Registers) : Type 0 where
@@ -23,10 +23,6 @@ pub record SavedFits (s : Saved) : Type 0 where
   pub transfer : s .trap .transfer < 2 ^ 32
   pub value : s .trap .value < 2 ^ 32
   pub index : s .trap .index < 2 ^ 32
-
--- the same registers with another EIP
-abbrev pub withEip : Registers → ℕ → Registers
-withEip r eip = record { eip = eip; eflags = r .eflags; cr0 = r .cr0; dr7 = r .dr7; cs = r .cs; level = r .level; writable = r .writable }
 
 -- every word of the table is found at its offset with what it was written to hold
 abbrev pub WordsReadBack : Type 0

@@ -32,10 +32,7 @@ withConfig m c = machine (m .registers) (m .segments) (m .halted) (m .inside) (m
 abbrev pub withSegments : Machine → Segments → Machine
 withSegments m s = machine (m .registers) s (m .halted) (m .inside) (m .latched) (m .config)
 
--- the registers with another EIP, and with another CS
-abbrev pub withEip : Registers → ℕ → Registers
-withEip r eip = record { eip = eip; eflags = r .eflags; cr0 = r .cr0; dr7 = r .dr7; cs = r .cs; level = r .level; writable = r .writable }
-
+-- the registers with another CS
 abbrev pub withCs : Registers → Segment → Registers
 withCs r cs = record { eip = r .eip; eflags = r .eflags; cr0 = r .cr0; dr7 = r .dr7; cs = cs; level = r .level; writable = r .writable }
 

@@ -14,14 +14,14 @@ use Rattle.steps.specs.Steps.{malformed, interrupts, program}
 use Rattle.config.specs.Settings.{windowOf}
 use Rattle.config.specs.Ports.{portRead, portWrite}
 use Rattle.config.specs.declared.Accessed.{Accessed}
-use Rattle.header.specs.Header.{levelOf}
+use Rattle.header.specs.Header.{levelOf, withEip}
 use Rattle.opcodes.specs.declared.SegmentName.{SegmentName}
 use Rattle.opcodes.specs.declared.Operation.{Operation}
 use Rattle.opcodes.specs.declared.Operation.the-variants.{Save, Restore, Smint, Rsm, Undefined}
 use Rattle.opcodes.specs.Decode.{decoded, allowed}
 use Rattle.machine.specs.declared.Machine.{Machine}
 use Rattle.machine.specs.declared.Stepped.{Stepped}
-use Rattle.machine.specs.Machines.{withRegisters, withHalted, withConfig, withEip, segmentIn, withSegment, segment, resetMachine}
+use Rattle.machine.specs.Machines.{withRegisters, withHalted, withConfig, segmentIn, withSegment, segment, resetMachine}
 use Rattle.machine.specs.Outcomes.{Outcome, gives, ends, over}
 use Rattle.machine.specs.Service.{settingsOf, entryBySmint, boundary, resume, permitted}
 
