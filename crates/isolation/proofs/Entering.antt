@@ -1,6 +1,6 @@
 -- The header in a memory, and the steps that enter. Assumes nothing.
-use mathlib.Core.Path.{_≡_, refl, sym, ap, _∙_}
-use mathlib.Core.Bool.{Bool, true, false, cond, not, _&&_, _||_, and-eq-true-iff}
+use mathlib.Core.Path.{_≡_, refl, ap, _∙_}
+use mathlib.Core.Bool.{true, false, not, _||_, and-eq-true-iff}
 use mathlib.Core.List.{List, [], _∷_, map}
 use Prim.Native.Nat.{ℕ, suc, _+_, _≤_, _<_}
 use native.Mathlib.Omega.{arith}
@@ -16,12 +16,9 @@ use Rattle.steps.specs.declared.Interruption.{Interruption}
 use Rattle.steps.specs.declared.Step.{Step}
 use Rattle.steps.specs.declared.Step.the-variants.{Reset, Registers, Read, Write, PortRead, PortWrite, Opcode, Boundary, UnnamedBoundary, Halt, Wake}
 use Rattle.steps.specs.Answers.{numberOf}
-use Rattle.config.specs.Ports.{indexed, internal, portRead, portWrite}
-use Rattle.config.specs.Settings.{useSmi, smac, regionIn, enabled, headerPlace}
-use Rattle.config.specs.declared.Accessed.{Accessed}
-use Rattle.config.proofs.Lock.{place-fits}
+use Rattle.config.specs.Settings.{useSmi, regionIn, enabled}
 use Rattle.header.specs.declared.Saved.{Saved}
-use Rattle.header.specs.Header.{holds, upward, headerBytes, headed, levelNumber}
+use Rattle.header.specs.Header.{holds, upward, headerBytes, headed}
 use Rattle.header.proofs.ReadBack.{length-bytes, stored-byte}
 use Rattle.opcodes.specs.declared.Operation.{Operation}
 use Rattle.opcodes.specs.declared.Operation.the-variants.{Save, Restore, Smint, Rsm, Undefined}
@@ -30,8 +27,9 @@ use Rattle.machine.specs.declared.Machine.{Machine}
 use Rattle.machine.specs.declared.Stepped.{Stepped}
 use Rattle.machine.specs.Outcomes.{Outcome, Managed, gives, ends, manages, over}
 use Rattle.machine.specs.Service.{settingsOf, entry, boundary, resume, permitted}
-use Rattle.machine.specs.Steps.{wrongSizes, malformedOn, programWhileHalted, valid, there, ported, dataRead, dataWrite, saved, restored, operated, opcode, performed, stepped}
+use Rattle.machine.specs.Steps.{wrongSizes, malformedOn, programWhileHalted, valid, there, dataRead, dataWrite, saved, restored, operated, opcode, performed, stepped}
 use Rattle.isolation.specs.Service.{OnlyHeader, savedBy, latchAfter}
+use Rattle.isolation.proofs.Ports.{read-keeps, write-keeps}
 use Rattle.isolation.proofs.Cases.{either}
 
 -- ---- the header in a memory
@@ -109,25 +107,6 @@ module _ (m : Machine) (x : Memories) (sized : Sized x) where
   smint-enters op modrm a next Rsm e = other _ _ refl
   smint-enters op modrm a next Undefined e = other _ _ refl
 
-  port-read-enters : (port : ℕ) → If (PortRead port) (ends (ported m (portRead (m .config) port)) x)
-  unfolding portRead
-  port-read-enters port =
-      let c = m .config in
-      let P : Accessed → Type 0 = λ p. If (PortRead port) (ends (ported m p) x) in
-      either P (eqb port 0x23 && c .armed)
-      (λ h. either (λ (a : Answer). P (record { config = indexed (c .settings) (c .index) false; answer = a })) (internal (c .index))
-      (λ k. other _ _ refl) (λ k. other _ _ refl))
-      (λ h. other _ _ refl)
-
-  port-write-enters : (port v : ℕ) → If (PortWrite port v) (ends (ported m (portWrite (m .config) port v (m .inside))) x)
-  unfolding portWrite
-  port-write-enters port v =
-      let P : Accessed → Type 0 = λ p. If (PortWrite port v) (ends (ported m p) x) in
-      either P (eqb port 0x22) (λ h. other _ _ refl)
-      (λ h. either P (eqb port 0x23 && m .config .armed)
-      (λ k. either P (internal (m .config .index)) (λ l. other _ _ refl) (λ l. other _ _ refl))
-      (λ k. other _ _ refl))
-
   boundary-enters : (smi current : ℕ) (i : Interruption)
       → If (Boundary smi current i) (over x (boundary m (x .management) (eqb smi 1) current i))
   unfolding boundary enabled
@@ -152,8 +131,8 @@ module _ (m : Machine) (x : Memories) (sized : Sized x) where
   performed-enters (Read width a) =
       either (λ (r : Stepped). If (Read width a) (ends r x)) (there m x a width) (λ k. other _ _ refl) (λ k. other _ _ refl)
   performed-enters (Write width a v) = either (If _) (there m x a width) (λ k. other _ _ refl) (λ k. other _ _ refl)
-  performed-enters (PortRead port) = port-read-enters port
-  performed-enters (PortWrite port v) = port-write-enters port v
+  performed-enters (PortRead port) = other _ _ (read-keeps (m .config) port .0 .other)
+  performed-enters (PortWrite port v) = other _ _ (write-keeps (m .config) port v (m .inside) .0 .other)
   performed-enters (Opcode op modrm a next) =
       let o = decoded op modrm in
       either (If _) (valid m o) (λ k. smint-enters op modrm a next o k) (λ k. other _ _ refl)

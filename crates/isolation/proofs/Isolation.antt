@@ -1,40 +1,38 @@
 -- Demand 3. Assumes nothing.
-use mathlib.Core.Path.{_≡_, refl, sym, ap, subst, _∙_}
-use mathlib.Core.Bool.{Bool, true, false, cond, _&&_, _||_, and-false}
+use mathlib.Core.Path.{_≡_, refl, sym, ap, _∙_}
+use mathlib.Core.Bool.{Bool, true, false, _||_, and-false}
 use mathlib.Core.List.{List, [], _∷_}
-use Prim.Native.Nat.{ℕ, zero, suc, _+_, _-_, _≤_, _<_}
+use Prim.Native.Nat.{ℕ, suc, _+_, _-_, _≤_, _<_}
 use native.Mathlib.Omega.{arith}
-use lib.Dec.{eqb, leb}
-use lib.ListN.{length, getD, take, length-take}
+use lib.Dec.{eqb}
+use lib.ListN.{length, take, length-take}
 use lib.Seq.{getD-take}
-use Rattle.region.specs.Region.{usable, within}
-use Rattle.memory.specs.Memory.{Memories, memories, load, store}
+use Rattle.region.specs.Region.{within}
+use Rattle.memory.specs.Memory.{Memories, memories, load}
 use Rattle.memory.proofs.Laws.{storedMain, load-shut, store-shut}
 use Rattle.steps.specs.declared.Answer.{Answer}
-use Rattle.steps.specs.declared.Answer.the-variants.{Done, WrongSize, Malformed, WhileHalted, Invalid, Absent, Value, External, Nothing, Ignored, Latched, Entered}
+use Rattle.steps.specs.declared.Answer.the-variants.{Done, WrongSize, Malformed, WhileHalted, Invalid, Absent, Value, Nothing, Ignored, Entered}
 use Rattle.steps.specs.declared.Interruption.{Interruption}
 use Rattle.steps.specs.declared.Step.{Step}
 use Rattle.steps.specs.declared.Step.the-variants.{Reset, Registers, Read, Write, PortRead, PortWrite, Opcode, Boundary, UnnamedBoundary, Halt, Wake}
 use Rattle.steps.specs.Answers.{numberOf}
-use Rattle.config.specs.declared.Settings.{Settings}
 use Rattle.config.specs.declared.Accessed.{Accessed}
-use Rattle.config.specs.Ports.{indexed, internal, portRead, portWrite}
-use Rattle.config.specs.Settings.{useSmi, smac, smiLock, regionIn, enabled, headerPlace, written, SameLocked}
-use Rattle.config.proofs.Lock.{locked-refl, locked-trans, locked-fixed, fixed-smac, fixed-lock, fixed-place, written-locked, window-shut, enabled-usable, place-fits}
+use Rattle.config.specs.Settings.{smac, smiLock, enabled, headerPlace, SameLocked}
+use Rattle.config.proofs.Lock.{locked-refl, locked-trans, locked-fixed, fixed-smac, fixed-lock, fixed-place, window-shut, enabled-usable, place-fits}
 use Rattle.header.specs.Header.{headed, headerBytes}
 use Rattle.header.specs.declared.Saved.{Saved}
 use Rattle.opcodes.specs.declared.Operation.{Operation}
 use Rattle.opcodes.specs.Decode.{decoded}
 use Rattle.machine.specs.declared.Machine.{Machine}
 use Rattle.machine.specs.declared.Stepped.{Stepped}
-use Rattle.machine.specs.Machines.{withLatched}
 use Rattle.machine.specs.Outcomes.{Outcome, Managed, gives, ends, manages, over}
 use Rattle.machine.specs.Service.{settingsOf, savedAtBoundary, enteredMachine, entry, boundary, permitted}
 use Rattle.machine.specs.Steps.{wrongSizes, malformedOn, programWhileHalted, valid, window, there, ported, dataRead, dataWrite, opcode, performed, stepped, Run, run}
 use Rattle.isolation.specs.Service.{OnlyHeader}
 use Rattle.isolation.specs.Isolation.{Locked, NoReset, UpToEntry, lastAnswer, SameHeader, Agree, Isolated}
+use Rattle.isolation.proofs.Ports.{read-keeps, write-keeps}
 use Rattle.isolation.proofs.Cases.{both, either, unlike}
-use Rattle.isolation.proofs.Entering.{only-header, Sized, sizes, not-entered}
+use Rattle.isolation.proofs.Entering.{only-header, sizes, not-entered}
 
 -- a later machine of a run that began on start: outside the mode, the locked settings as they were
 record Held (start m : Machine) : Type 0 where
@@ -108,29 +106,6 @@ module _ (start : Machine) (from : Locked start) (g h : List ℕ) (main : List �
         → P (ends (ported m p) (memories main g)) (ends (ported m p) (memories main h))
     port-one p e k = quiet (ported m p) main e (kept (ported m p .machine) refl k)
 
-    port-read-one : (port : ℕ) → let r = ported m (portRead (m .config) port) in P (ends r (memories main g)) (ends r (memories main h))
-    unfolding portRead
-    port-read-one port =
-        let c = m .config in
-        let Q : Accessed → Type 0 = λ p. P (ends (ported m p) (memories main g)) (ends (ported m p) (memories main h)) in
-        either Q (eqb port 0x23 && c .armed)
-        (λ k. either (λ (a : Answer). Q (record { config = indexed (c .settings) (c .index) false; answer = a })) (internal (c .index))
-        (λ l. port-one _ refl locked-refl) (λ l. port-one _ refl locked-refl))
-        (λ k. port-one _ refl locked-refl)
-
-    port-write-one : (port v : ℕ)
-        → let r = ported m (portWrite (m .config) port v (m .inside)) in P (ends r (memories main g)) (ends r (memories main h))
-    unfolding portWrite
-    port-write-one port v =
-        let c = m .config in
-        let Q : Accessed → Type 0 = λ p. P (ends (ported m p) (memories main g)) (ends (ported m p) (memories main h)) in
-        let k : SameLocked (written (c .settings) (c .index) v (m .inside)) (c .settings)
-        = rw (held .outside) (written-locked (c .settings) (c .index) v lock) in
-        either Q (eqb port 0x22) (λ l. port-one _ refl locked-refl)
-        (λ l. either Q (eqb port 0x23 && c .armed)
-        (λ n. either Q (internal (c .index)) (λ o. port-one _ refl k) (λ o. port-one _ refl locked-refl))
-        (λ n. port-one _ refl locked-refl))
-
     -- outside the mode with SMAC 0 no operation is valid
     not-valid : (o : Operation) → valid m o ≡ false
     unfolding valid permitted
@@ -175,8 +150,8 @@ module _ (start : Machine) (from : Locked start) (g h : List ℕ) (main : List �
       performed-one (Registers eip eflags cr0 dr7 selector descriptor level writable) n = quiet _ main refl (kept _ refl locked-refl)
       performed-one (Read width a) n = read-one width a
       performed-one (Write width a v) n = write-one width a v
-      performed-one (PortRead port) n = port-read-one port
-      performed-one (PortWrite port v) n = port-write-one port v
+      performed-one (PortRead port) n = let k = read-keeps (m .config) port in port-one _ (k .0 .other) (rw (k .1) locked-refl)
+      performed-one (PortWrite port v) n = let k = write-keeps (m .config) port v (m .inside) in port-one _ (k .0 .other) (k .1 (held .outside) lock)
       performed-one (Opcode op modrm a next) n = opcode-one (decoded op modrm) a next
       performed-one (Boundary smi current i) n = boundary-one (eqb smi 1) current i
       performed-one UnnamedBoundary n = stays Malformed refl

@@ -1,4 +1,5 @@
 pub mod Cases
+pub mod Ports
 pub mod Refusals
 pub mod Entering
 pub mod Service

@@ -10,9 +10,7 @@ use Rattle.steps.specs.declared.Step.{Step}
 use Rattle.steps.specs.declared.Step.the-variants.{Reset, Registers, Read, Write, PortRead, PortWrite, Opcode, Boundary, UnnamedBoundary, Halt, Wake}
 use Rattle.steps.specs.declared.Interruption.{Interruption}
 use Rattle.steps.specs.Answers.{numberOf, refusal}
-use Rattle.config.specs.Ports.{indexed, internal, portRead, portWrite}
 use Rattle.config.specs.Settings.{enabled}
-use Rattle.config.specs.declared.Accessed.{Accessed}
 use Rattle.opcodes.specs.declared.Operation.{Operation}
 use Rattle.opcodes.specs.declared.Operation.the-variants.{Save, Restore, Smint, Rsm, Undefined}
 use Rattle.opcodes.specs.Decode.{decoded}
@@ -20,8 +18,9 @@ use Rattle.machine.specs.declared.Machine.{Machine}
 use Rattle.machine.specs.declared.Stepped.{Stepped}
 use Rattle.machine.specs.Outcomes.{Outcome, Managed, gives, ends, manages, over}
 use Rattle.machine.specs.Service.{settingsOf, entry, boundary, resume, permitted}
-use Rattle.machine.specs.Steps.{wrongSizes, malformedOn, programWhileHalted, valid, there, refused, ported, dataRead, dataWrite, saved, restored, operated, opcode, performed, stepped}
+use Rattle.machine.specs.Steps.{wrongSizes, malformedOn, programWhileHalted, valid, there, refused, dataRead, dataWrite, saved, restored, operated, opcode, performed, stepped}
 use Rattle.isolation.specs.Refusals.{invalidOpcode, hasOperand, absentByte, calledFor, RefusedAsCalledFor, RefusalChangesNothing}
+use Rattle.isolation.proofs.Ports.{read-keeps, write-keeps}
 use Rattle.isolation.proofs.Cases.{both, across, either, unlike}
 
 -- an outcome of a step from m and x that is refused by the number n and changes nothing, or, where n is 0, is not refused
@@ -57,25 +56,6 @@ module _ (m : Machine) (x : Memories) where
       go true e = operated-right o a next e
       go false e = refuses Invalid refl
 
-  port-read-right : (port : ℕ) → Refused m x (ends (ported m (portRead (m .config) port)) x) 0
-  unfolding portRead
-  port-read-right port =
-      let c = m .config in
-      let P : Accessed → Type 0 = λ p. Refused m x (ends (ported m p) x) 0 in
-      either P (eqb port 0x23 && c .armed)
-      (λ h. either (λ (a : Answer). P (record { config = indexed (c .settings) (c .index) false; answer = a })) (internal (c .index))
-      (λ k. takes _ refl) (λ k. takes _ refl))
-      (λ h. takes _ refl)
-
-  port-write-right : (port v : ℕ) → Refused m x (ends (ported m (portWrite (m .config) port v (m .inside))) x) 0
-  unfolding portWrite
-  port-write-right port v =
-      let P : Accessed → Type 0 = λ p. Refused m x (ends (ported m p) x) 0 in
-      either P (eqb port 0x22) (λ h. takes _ refl)
-      (λ h. either P (eqb port 0x23 && m .config .armed)
-      (λ k. either P (internal (m .config .index)) (λ l. takes _ refl) (λ l. takes _ refl))
-      (λ k. takes _ refl))
-
   boundary-right : (asserted : Bool) (current : ℕ) (i : Interruption)
       → Refused m x (over x (boundary m (x .management) asserted current i)) 0
   unfolding boundary entry
@@ -95,8 +75,8 @@ module _ (m : Machine) (x : Memories) where
   performed-right (Read width a) e =
       across (λ (r : Stepped) (n : ℕ). Refused m x (ends r x) n) (there m x a width) (takes _ refl) (refuses Absent refl)
   performed-right (Write width a v) e = across (Refused m x) (there m x a width) (takes _ refl) (refuses Absent refl)
-  performed-right (PortRead port) e = port-read-right port
-  performed-right (PortWrite port v) e = port-write-right port v
+  performed-right (PortRead port) e = takes _ (read-keeps (m .config) port .0 .taken)
+  performed-right (PortWrite port v) e = takes _ (write-keeps (m .config) port v (m .inside) .0 .taken)
   performed-right (Opcode op modrm a next) e = opcode-right (decoded op modrm) a next
   performed-right (Boundary smi current i) e = boundary-right (eqb smi 1) current i
   performed-right UnnamedBoundary e = unlike refl e

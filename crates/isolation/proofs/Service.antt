@@ -1,19 +1,16 @@
 -- Demand 2. Assumes nothing.
 use mathlib.Core.Path.{_≡_, refl, sym, ap, subst, _∙_}
-use mathlib.Core.Bool.{Bool, true, false, cond, not, _&&_, _||_}
-use mathlib.Core.List.{List}
+use mathlib.Core.Bool.{true, false}
 use Prim.Native.Nat.{ℕ, _+_, _≤_}
 use native.Mathlib.Omega.{arith}
-use lib.Dec.{eqb, leb}
 use lib.ListN.{length}
 use lib.Seq.{length-sets}
-use borrow.Author.Tests.{eq-eqb}
-use Rattle.memory.specs.Memory.{Memories, memories}
+use Rattle.memory.specs.Memory.{Memories}
 use Rattle.steps.specs.declared.Step.{Step}
 use Rattle.steps.specs.declared.Step.the-variants.{Reset, Registers, Read, Write, PortRead, PortWrite, Opcode, Boundary, UnnamedBoundary, Halt, Wake}
 use Rattle.config.specs.Settings.{headerPlace}
 use Rattle.config.proofs.Lock.{place-fits}
-use Rattle.header.specs.Header.{headerBytes, headed, resumed, withEip}
+use Rattle.header.specs.Header.{headerBytes, headed, withEip}
 use Rattle.header.specs.Entry.{entryRegisters}
 use Rattle.header.specs.ReadBack.{SavedFits}
 use Rattle.header.proofs.ReadBack.{registers-back}
@@ -23,8 +20,8 @@ use Rattle.machine.specs.declared.Machine.{Machine}
 use Rattle.machine.specs.Outcomes.{Outcome, ends, over}
 use Rattle.machine.specs.Service.{settingsOf, entry, enteredMachine, resume, permitted}
 use Rattle.machine.specs.Steps.{wrongSizes, malformedOn, programWhileHalted, valid, operated, opcode, performed, stepped}
-use Rattle.isolation.specs.Service.{OnlyHeader, savedBy, latchAfter, Entry, EntersAsStated, Resume, ResumesAsEntered}
-use Rattle.isolation.proofs.Entering.{only-header, Enters, Sized, enters}
+use Rattle.isolation.specs.Service.{savedBy, latchAfter, Entry, EntersAsStated, Resume, ResumesAsEntered}
+use Rattle.isolation.proofs.Entering.{only-header, Enters, enters}
 
 module _ (m : Machine) (x : Memories) (s : Step) where
   place : {o : Outcome} → Enters m x s o → headerPlace (settingsOf m) + 48 ≤ length (x .management)

@@ -1,6 +1,6 @@
 -- Demand 3: up to and including the first entry, nothing that a locked machine outside management mode does or answers depends on
 -- management memory, and none of it is changed but by entry. One claim about the whole list of steps.
-use Prim.Native.Nat.{ℕ, _+_, _-_, _<_, suc}
+use Prim.Native.Nat.{ℕ, _-_, _<_, suc}
 use mathlib.Core.Path.{_≡_}
 use mathlib.Core.Bool.{true, false}
 use mathlib.Core.List.{List}
