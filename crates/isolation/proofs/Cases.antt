@@ -1,4 +1,4 @@
--- Going by cases on a test, and telling answers apart. Assumes nothing.
+-- Going by cases on a test. Assumes nothing.
 use mathlib.Core.Path.{_≡_, refl}
 use mathlib.Core.Bool.{Bool, true, false, cond, not, true≢false}
 

@@ -35,12 +35,12 @@ use Rattle.isolation.proofs.Cases.{either}
 -- ---- the header in a memory
 
 -- bytes stored from a place on leave those below and above
-stored-below : (bs g : List ℕ) (at i : ℕ) → i < at → getD (sets g at bs) i 0 ≡ getD g i 0
+pub stored-below : (bs g : List ℕ) (at i : ℕ) → i < at → getD (sets g at bs) i 0 ≡ getD g i 0
 stored-below [] g at i h = refl
 stored-below (b ∷ bs) g at i h =
     stored-below bs (set g at b) (suc at) i (omega arith) ∙ getD-set-other g at i b 0 (λ e. omega arith)
 
-stored-above : (bs g : List ℕ) (at i : ℕ) → at + length bs ≤ i → getD (sets g at bs) i 0 ≡ getD g i 0
+pub stored-above : (bs g : List ℕ) (at i : ℕ) → at + length bs ≤ i → getD (sets g at bs) i 0 ≡ getD g i 0
 stored-above [] g at i h = refl
 stored-above (b ∷ bs) g at i h =
     stored-above bs (set g at b) (suc at) i (omega arith) ∙ getD-set-other g at i b 0 (λ e. omega arith)
@@ -76,8 +76,14 @@ sizes x e =
     let p = and-eq-true-iff _ _ .0 (not-false _ e) in
     record { main = p .0; management = eqb-true _ _ (p .1) }
 
+-- a boundary or SMINT
+pub data Entering : Step → Type 0 where
+  at-boundary : {smi current : ℕ} {i : Interruption} → Entering (Boundary smi current i)
+  by-smint : {op modrm a next : ℕ} → decoded op modrm ≡ Smint → Entering (Opcode op modrm a next)
+
 -- an outcome of the step s from m and x that is an entry
 pub record Enters (m : Machine) (x : Memories) (s : Step) (o : Outcome) : Type 0 where
+  pub by : Entering s
   pub sized : Sized x
   pub on : useSmi (settingsOf m) ≡ true
   pub usable : usable (regionIn (settingsOf m)) ≡ true
@@ -94,18 +100,18 @@ module _ (m : Machine) (x : Memories) (sized : Sized x) where
   other : (s : Step) (o : Outcome) → eqb (numberOf (o .stepped .answer)) 11 ≡ false → If s o
   other s o e h = not-entered (o .stepped .answer) e h
 
-  smint-enters : (op modrm a next : ℕ) (o : Operation) → valid m o ≡ true → If (Opcode op modrm a next) (operated m x o a next)
+  smint-enters : (op modrm a next : ℕ) (o : Operation) → decoded op modrm ≡ o → valid m o ≡ true → If (Opcode op modrm a next) (operated m x o a next)
   unfolding operated saved restored resume valid permitted
-  smint-enters op modrm a next (Save name) e = either (If _) (there m x a operandLength) (λ k. other _ _ refl) (λ k. other _ _ refl)
-  smint-enters op modrm a next (Restore name) e =
+  smint-enters op modrm a next (Save name) d e = either (If _) (there m x a operandLength) (λ k. other _ _ refl) (λ k. other _ _ refl)
+  smint-enters op modrm a next (Restore name) d e =
       either (λ (r : Stepped). If (Opcode op modrm a next) (ends r x)) (there m x a operandLength) (λ k. other _ _ refl) (λ k. other _ _ refl)
-  smint-enters op modrm a next Smint e =
+  smint-enters op modrm a next Smint d e =
       let p = and-eq-true-iff _ _ .0 e .0 in
       let q = and-eq-true-iff _ _ .0 (and-eq-true-iff _ _ .0 p .0) .0 in
       let r = and-eq-true-iff _ _ .0 q in
-      λ h. record { sized = sized; on = r .0; usable = r .1; outcome = refl }
-  smint-enters op modrm a next Rsm e = other _ _ refl
-  smint-enters op modrm a next Undefined e = other _ _ refl
+      λ h. record { by = by-smint d; sized = sized; on = r .0; usable = r .1; outcome = refl }
+  smint-enters op modrm a next Rsm d e = other _ _ refl
+  smint-enters op modrm a next Undefined d e = other _ _ refl
 
   boundary-enters : (smi current : ℕ) (i : Interruption)
       → If (Boundary smi current i) (over x (boundary m (x .management) (eqb smi 1) current i))
@@ -120,7 +126,7 @@ module _ (m : Machine) (x : Memories) (sized : Sized x) where
       (λ l e.
       let p = and-eq-true-iff _ _ .0 k in
       let q = and-eq-true-iff _ _ .0 (p .0) in
-      record { sized = sized; on = q .0; usable = p .1; outcome = refl })
+      record { by = at-boundary; sized = sized; on = q .0; usable = p .1; outcome = refl })
       (λ l. other _ _ refl))
       (λ k. either (λ (a : Answer). P (manages (gives m a) (x .management))) asserted (λ l. other _ _ refl) (λ l. other _ _ refl)))
 
@@ -135,7 +141,7 @@ module _ (m : Machine) (x : Memories) (sized : Sized x) where
   performed-enters (PortWrite port v) = other _ _ (write-keeps (m .config) port v (m .inside) .0 .other)
   performed-enters (Opcode op modrm a next) =
       let o = decoded op modrm in
-      either (If _) (valid m o) (λ k. smint-enters op modrm a next o k) (λ k. other _ _ refl)
+      either (If _) (valid m o) (λ k. smint-enters op modrm a next o refl k) (λ k. other _ _ refl)
   performed-enters (Boundary smi current i) = boundary-enters smi current i
   performed-enters UnnamedBoundary = other _ _ refl
   performed-enters Halt = other _ _ refl

@@ -4,3 +4,4 @@ pub mod Refusals
 pub mod Entering
 pub mod Service
 pub mod Isolation
+pub mod Tightness

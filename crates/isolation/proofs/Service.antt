@@ -71,7 +71,7 @@ unfolding opcode valid operated
 rsm-operates m x a next inside may = rw (may, inside)
 
 -- a step that no refusal of 1 to 3 stops
-performs : (m : Machine) (x : Memories) (s : Step) → wrongSizes x ≡ false → malformedOn m s ≡ false → programWhileHalted m s ≡ false
+pub performs : (m : Machine) (x : Memories) (s : Step) → wrongSizes x ≡ false → malformedOn m s ≡ false → programWhileHalted m s ≡ false
     → stepped m x s ≡ performed m x s
 unfolding stepped
 performs m x s sizes formed awake = rw (sizes, formed, awake)
