@@ -1,0 +1,247 @@
+-- Demand 3. Assumes nothing.
+use mathlib.Core.Path.{_≡_, refl, sym, ap, _∙_}
+use mathlib.Core.Bool.{Bool, true, false, _||_, and-false}
+use mathlib.Core.List.{List, [], _∷_}
+use Prim.Native.Nat.{ℕ, suc, _+_, _-_, _≤_, _<_}
+use native.Mathlib.Omega.{arith}
+use lib.Dec.{eqb}
+use lib.ListN.{length, take, length-take}
+use lib.Seq.{getD-take}
+use Rattle.region.specs.Region.{within}
+use Rattle.memory.specs.Memory.{Memories, memories, load}
+use Rattle.memory.proofs.Laws.{storedMain, load-shut, store-shut}
+use Rattle.steps.specs.declared.Answer.{Answer}
+use Rattle.steps.specs.declared.Answer.the-variants.{Done, WrongSize, Malformed, WhileHalted, Invalid, Absent, Value, Nothing, Ignored, Entered}
+use Rattle.steps.specs.declared.Interruption.{Interruption}
+use Rattle.steps.specs.declared.Step.{Step}
+use Rattle.steps.specs.declared.Step.the-variants.{Reset, Registers, Read, Write, PortRead, PortWrite, Opcode, Boundary, UnnamedBoundary, Halt, Wake}
+use Rattle.steps.specs.Answers.{numberOf}
+use Rattle.config.specs.declared.Accessed.{Accessed}
+use Rattle.config.specs.Settings.{smac, smiLock, enabled, headerPlace, SameLocked}
+use Rattle.config.proofs.Lock.{locked-refl, locked-trans, locked-fixed, fixed-smac, fixed-lock, fixed-place, window-shut, enabled-usable, place-fits}
+use Rattle.header.specs.Header.{headed, headerBytes}
+use Rattle.header.specs.declared.Saved.{Saved}
+use Rattle.opcodes.specs.declared.Operation.{Operation}
+use Rattle.opcodes.specs.Decode.{decoded}
+use Rattle.machine.specs.declared.Machine.{Machine}
+use Rattle.machine.specs.declared.Stepped.{Stepped}
+use Rattle.machine.specs.Outcomes.{Outcome, Managed, gives, ends, manages, over}
+use Rattle.machine.specs.Service.{settingsOf, savedAtBoundary, enteredMachine, entry, boundary, permitted}
+use Rattle.machine.specs.Steps.{wrongSizes, malformedOn, programWhileHalted, valid, window, there, ported, dataRead, dataWrite, opcode, performed, stepped, Run, run}
+use Rattle.isolation.specs.Service.{OnlyHeader}
+use Rattle.isolation.specs.Isolation.{Locked, NoReset, UpToEntry, lastAnswer, SameHeader, Agree, Isolated}
+use Rattle.isolation.proofs.Ports.{read-keeps, write-keeps}
+use Rattle.isolation.proofs.Cases.{both, either, unlike}
+use Rattle.isolation.proofs.Entering.{only-header, sizes, not-entered}
+
+-- a later machine of a run that began on start: outside the mode, the locked settings as they were
+record Held (start m : Machine) : Type 0 where
+  pub outside : m .inside ≡ false
+  pub settings : SameLocked (settingsOf m) (settingsOf start)
+
+-- two outcomes of one step, of runs that began on start with management memories g and h
+record One (start : Machine) (g h : List ℕ) (o p : Outcome) : Type 0 where
+  pub same : o .stepped ≡ p .stepped
+  pub main : o .memory .main ≡ p .memory .main
+  pub settings : SameLocked (settingsOf (o .stepped .machine)) (settingsOf start)
+  pub before : (o .stepped .answer ≡ Entered → ⊥) → (o .memory .management ≡ g) × (p .memory .management ≡ h) × (o .stepped .machine .inside ≡ false)
+  pub entered : o .stepped .answer ≡ Entered → SameHeader start g h (o .memory .management) (p .memory .management)
+
+sized-alike : (main g h : List ℕ) → length g ≡ length h → wrongSizes (memories main g) ≡ wrongSizes (memories main h)
+unfolding wrongSizes
+sized-alike main g h e = rw e
+
+-- ---- one step
+
+module _ (start : Machine) (from : Locked start) (g h : List ℕ) (main : List ℕ) where
+  abbrev P : Outcome → Outcome → Type 0
+  P = One start g h
+
+  -- a step that leaves management memory as it was
+  quiet : (r : Stepped) (a : List ℕ) → eqb (numberOf (r .answer)) 11 ≡ false → Held start (r .machine)
+      → P (ends r (memories a g)) (ends r (memories a h))
+  quiet r a e held = record {
+    same = refl;
+    main = refl;
+    settings = held .settings;
+    before = λ n. (refl, refl, held .outside);
+    entered = not-entered (r .answer) e;
+  }
+
+  module _ (m : Machine) (held : Held start m) where
+    lock : smiLock (settingsOf m) ≡ true
+    lock = fixed-lock (locked-fixed (held .settings)) ∙ from .locked
+
+    closed : smac (settingsOf m) ≡ false
+    closed = fixed-smac (locked-fixed (held .settings)) ∙ from .closed
+
+    shut : (a : ℕ) → within (window m) a ≡ false
+    shut a = rw (held .outside) (window-shut (settingsOf m) a closed)
+
+    -- the same machine
+    stays : (a : Answer) → eqb (numberOf a) 11 ≡ false → P (ends (gives m a) (memories main g)) (ends (gives m a) (memories main h))
+    stays a e = quiet (gives m a) main e held
+
+    -- one that differs in neither mode nor settings
+    kept : (n : Machine) → n .inside ≡ m .inside → SameLocked (settingsOf n) (settingsOf m) → Held start n
+    kept n e k = record { outside = e ∙ held .outside; settings = locked-trans k (held .settings) }
+
+    read-one : (width a : ℕ)
+        → P (ends (dataRead m (memories main g) width a) (memories main g)) (ends (dataRead m (memories main h) width a) (memories main h))
+    unfolding dataRead there
+    read-one width a =
+        both (λ (r q : Stepped). P (ends r (memories main g)) (ends q (memories main h))) (there m (memories main g) a width)
+        (λ k. rw (load-shut (window m) shut main g h a width) (stays (Value (load (window m) (memories main h) a width)) refl))
+        (λ k. stays Absent refl)
+
+    write-one : (width a v : ℕ) → P (dataWrite m (memories main g) width a v) (dataWrite m (memories main h) width a v)
+    unfolding dataWrite there
+    write-one width a v =
+        both P (there m (memories main g) a width)
+        (λ k. rw (store-shut (window m) shut main g a width v, store-shut (window m) shut main h a width v)
+        (quiet (gives m Done) (storedMain main a width v) refl held))
+        (λ k. stays Absent refl)
+
+    port-one : (p : Accessed) → eqb (numberOf (p .answer)) 11 ≡ false → SameLocked (p .config .settings) (settingsOf m)
+        → P (ends (ported m p) (memories main g)) (ends (ported m p) (memories main h))
+    port-one p e k = quiet (ported m p) main e (kept (ported m p .machine) refl k)
+
+    -- outside the mode with SMAC 0 no operation is valid
+    not-valid : (o : Operation) → valid m o ≡ false
+    unfolding valid permitted
+    not-valid o = rw (held .outside, closed, and-false)
+
+    opcode-one : (o : Operation) (a next : ℕ) → P (opcode m (memories main g) o a next) (opcode m (memories main h) o a next)
+    unfolding opcode
+    opcode-one o a next = rw (not-valid o) (stays Invalid refl)
+
+    module _ (long : length g ≡ 65536) (equal : length g ≡ length h) where
+      entry-one : (s : Saved) (latched : Bool) → enabled (settingsOf m) ≡ true
+          → P (over (memories main g) (entry m g s latched)) (over (memories main h) (entry m h s latched))
+      unfolding entry enteredMachine
+      entry-one s latched e =
+          let at = headerPlace (settingsOf m) in
+          let fits = place-fits (settingsOf m) (enabled-usable (settingsOf m) e) in
+          let moved : (l : List ℕ) → at + 48 ≤ length l → OnlyHeader l (headed l at s) (headerPlace (settingsOf start)) (headerBytes s)
+          = λ l f. rw (← fixed-place (locked-fixed (held .settings))) (only-header l at s f) in
+          record {
+            same = refl;
+            main = refl;
+            settings = held .settings;
+            before = λ n. absurd (n refl);
+            entered = λ n. record { saved = s; first = moved g (omega arith); second = moved h (omega arith) };
+          }
+
+      boundary-one : (asserted : Bool) (current : ℕ) (i : Interruption)
+          → P (over (memories main g) (boundary m g asserted current i)) (over (memories main h) (boundary m h asserted current i))
+      unfolding boundary
+      boundary-one asserted current i =
+          let Q : Managed → Managed → Type 0 = λ b d. P (over (memories main g) b) (over (memories main h) d) in
+          both Q (m .inside)
+          (λ k. unlike k (held .outside))
+          (λ k. both Q (enabled (settingsOf m))
+          (λ l. both Q (asserted || m .latched) (λ n. entry-one (savedAtBoundary m current i) false l) (λ n. stays Nothing refl))
+          (λ l. either (λ (a : Answer). Q (manages (gives m a) g) (manages (gives m a) h)) asserted
+          (λ n. stays Ignored refl) (λ n. stays Nothing refl)))
+
+      performed-one : (s : Step) → (s ≡ Reset → ⊥) → P (performed m (memories main g) s) (performed m (memories main h) s)
+      unfolding performed
+      performed-one Reset n = absurd (n refl)
+      performed-one (Registers eip eflags cr0 dr7 selector descriptor level writable) n = quiet _ main refl (kept _ refl locked-refl)
+      performed-one (Read width a) n = read-one width a
+      performed-one (Write width a v) n = write-one width a v
+      performed-one (PortRead port) n = let k = read-keeps (m .config) port in port-one _ (k .0 .other) (rw (k .1) locked-refl)
+      performed-one (PortWrite port v) n = let k = write-keeps (m .config) port v (m .inside) in port-one _ (k .0 .other) (k .1 (held .outside) lock)
+      performed-one (Opcode op modrm a next) n = opcode-one (decoded op modrm) a next
+      performed-one (Boundary smi current i) n = boundary-one (eqb smi 1) current i
+      performed-one UnnamedBoundary n = stays Malformed refl
+      performed-one Halt n = quiet _ main refl (kept _ refl locked-refl)
+      performed-one Wake n = quiet _ main refl (kept _ refl locked-refl)
+
+    step-one : (s : Step) → length g ≡ length h → (s ≡ Reset → ⊥) → P (stepped m (memories main g) s) (stepped m (memories main h) s)
+    unfolding stepped
+    step-one s e n =
+        rw (sized-alike main g h e)
+        (both P (wrongSizes (memories main h)) (λ k. stays WrongSize refl)
+        (λ k. both P (malformedOn m s) (λ l. stays Malformed refl)
+        (λ l. both P (programWhileHalted m s) (λ o. stays WhileHalted refl)
+        (λ o. performed-one (e ∙ sizes _ k .management) e s n))))
+
+-- ---- a list of steps
+
+last-of-more : (a : Answer) (bs : List Answer) → 0 < length bs → lastAnswer (a ∷ bs) ≡ lastAnswer bs
+last-of-more a [] h = absurd (omega arith)
+last-of-more a (b ∷ bs) h =
+    let e : suc (suc (length bs)) - 1 ≡ suc (length bs) = omega arith in
+    let f : suc (length bs) - 1 ≡ length bs = omega arith in
+    rw (e, f)
+
+module _ (start : Machine) (from : Locked start) (g h : List ℕ) (equal : length g ≡ length h) where
+  -- a first step that did not enter, before runs that agree
+  before-more : (a b : Answer) (r q : Run) → a ≡ b → 0 < length (r .answers) → Agree start g h r q
+      → Agree start g h (record { machine = r .machine; memory = r .memory; answers = a ∷ r .answers })
+      (record { machine = q .machine; memory = q .memory; answers = b ∷ q .answers })
+  before-more a b r q e more c =
+      let l = last-of-more a (r .answers) more in
+      record {
+        answers = cc (e, c .answers);
+        machine = c .machine;
+        main = c .main;
+        settings = c .settings;
+        before = λ n. c .before (λ k. n (l ∙ k));
+        entered = λ n. c .entered (sym l ∙ n);
+      }
+
+  -- machines and memories that may differ in management memory alone
+  record Apart (m n : Machine) (x y : Memories) : Type 0 where
+    pub machine : m ≡ n
+    pub main : x .main ≡ y .main
+    pub first : x .management ≡ g
+    pub second : y .management ≡ h
+
+  step-apart : (s : Step) (m n : Machine) (x y : Memories) → Apart m n x y → Held start m → (s ≡ Reset → ⊥)
+      → One start g h (stepped m x s) (stepped n y s)
+  step-apart s m n x y a held none =
+      let e : x ≡ memories (x .main) g = ap (memories (x .main)) (a .first) in
+      let f : y ≡ memories (x .main) h
+      = ap (λ (l : List ℕ). memories l (y .management)) (sym (a .main)) ∙ ap (memories (x .main)) (a .second) in
+      rw (← a .machine, f, e) (step-one start from g h (x .main) m held s equal none)
+
+  all : (ss : List Step) (m n : Machine) (x y : Memories) → Apart m n x y → Held start m → NoReset ss → UpToEntry (run m x ss .answers)
+      → Agree start g h (run m x ss) (run n y ss)
+  unfolding run
+  all [] m n x y a held none up = record {
+    answers = refl;
+    machine = a .machine;
+    main = a .main;
+    settings = held .settings;
+    before = λ k. (a .first, a .second);
+    entered = not-entered Done refl;
+  }
+  all (s ∷ []) m n x y a held none up =
+      let c = step-apart s m n x y a held (none 0 (omega arith)) in
+      record {
+        answers = ap (λ (r : Stepped). r .answer ∷ []) (c .same);
+        machine = ap (λ (r : Stepped). r .machine) (c .same);
+        main = c .main;
+        settings = c .settings;
+        before = λ k. let b = c .before k in (b .0, b .1);
+        entered = c .entered;
+      }
+  all (s ∷ t ∷ ss) m n x y a held none up =
+      let o = stepped m x s in
+      let p = stepped n y s in
+      let c = step-apart s m n x y a held (none 0 (omega arith)) in
+      let b = c .before (up 0 (omega arith)) in
+      let a′ : Apart (o .stepped .machine) (p .stepped .machine) (o .memory) (p .memory)
+      = record { machine = ap (λ (r : Stepped). r .machine) (c .same); main = c .main; first = b .0; second = b .1 } in
+      before-more (o .stepped .answer) (p .stepped .answer) (run (o .stepped .machine) (o .memory) (t ∷ ss))
+      (run (p .stepped .machine) (p .memory) (t ∷ ss)) (ap (λ (r : Stepped). r .answer) (c .same)) (omega arith)
+      (all (t ∷ ss) (o .stepped .machine) (p .stepped .machine) (o .memory) (p .memory) a′
+      (record { outside = b .2; settings = c .settings }) (λ i l. none (suc i) (omega arith)) (λ i l. up (suc i) (omega arith)))
+
+pub isolated : Isolated
+isolated m main g h ss from equal none k first second =
+    all m from g h equal (take k ss) m m (memories main g) (memories main h)
+    (record { machine = refl; main = refl; first = refl; second = refl }) (record { outside = from .outside; settings = locked-refl })
+    (λ i l. let e = length-take k ss in rw (getD-take k ss i Wake (omega arith)) (none i (omega arith))) first
