@@ -28,7 +28,8 @@ use Rattle.machine.specs.declared.Stepped.{Stepped}
 use Rattle.machine.specs.Outcomes.{Outcome, Managed, gives, ends, manages, over}
 use Rattle.machine.specs.Service.{settingsOf, entry, boundary, resume, permitted}
 use Rattle.machine.specs.Steps.{wrongSizes, malformedOn, programWhileHalted, valid, there, dataRead, dataWrite, saved, restored, operated, opcode, performed, stepped}
-use Rattle.isolation.specs.Service.{OnlyHeader, savedBy, latchAfter}
+use Rattle.isolation.specs.Service.{OnlyHeader, savedBy, latchAfter, Entering}
+use Rattle.isolation.specs.Service.Entering.{at-boundary, by-smint}
 use Rattle.isolation.proofs.Ports.{read-keeps, write-keeps}
 use Rattle.isolation.proofs.Cases.{either}
 
@@ -75,11 +76,6 @@ unfolding wrongSizes
 sizes x e =
     let p = and-eq-true-iff _ _ .0 (not-false _ e) in
     record { main = p .0; management = eqb-true _ _ (p .1) }
-
--- a boundary or SMINT
-pub data Entering : Step → Type 0 where
-  at-boundary : {smi current : ℕ} {i : Interruption} → Entering (Boundary smi current i)
-  by-smint : {op modrm a next : ℕ} → decoded op modrm ≡ Smint → Entering (Opcode op modrm a next)
 
 -- an outcome of the step s from m and x that is an entry
 pub record Enters (m : Machine) (x : Memories) (s : Step) (o : Outcome) : Type 0 where

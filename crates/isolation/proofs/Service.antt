@@ -30,6 +30,7 @@ module _ (m : Machine) (x : Memories) (s : Step) where
   entry-stated : {o : Outcome} → Enters m x s o → Entry m x s (over x (entry m (x .management) (savedBy m s) (latchAfter m s)))
   unfolding entry enteredMachine entryRegisters
   entry-stated e = record {
+    by = e .by;
     eip = refl;
     eflags = refl;
     dr7 = refl;

@@ -33,7 +33,7 @@ use Rattle.isolation.specs.Service.{OnlyHeader, savedBy, latchAfter, Ent
 use Rattle.isolation.specs.Isolation.{Locked, NoReset, UpToEntry, lastAnswer, Agree, Isolated}
 use Rattle.isolation.proofs.Cases.{either, unlike}
 use Rattle.isolation.proofs.Service.{performs}
-use Rattle.isolation.proofs.Entering.{stored-below, stored-above, Entering, enters}
+use Rattle.isolation.proofs.Entering.{stored-below, stored-above}
 
 -- ---- the hypotheses ask for no more
 
@@ -119,10 +119,7 @@ whole-list isolated m main g h ss from equal none =
     → Agree m g h (run m (memories main g) l) (run m (memories main h) l) in
     subst P (take-length ss) (isolated m main g h ss from equal none (length ss))
 
--- ---- entry takes place, by these steps alone
-
-pub only-these-enter : (m : Machine) (x : Memories) (s : Step) → stepped m x s .stepped .answer ≡ Entered → Entering s
-only-these-enter m x s h = enters m x s h .by
+-- ---- entry takes place
 
 pub smi-enters : (m : Machine) (x : Memories) (current : ℕ) (i : Interruption) → wrongSizes x ≡ false
     → malformedOn m (Boundary 1 current i) ≡ false → m .inside ≡ false → enabled (settingsOf m) ≡ true

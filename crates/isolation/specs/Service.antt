@@ -8,6 +8,9 @@ use Rattle.memory.specs.Memory.{Memories}
 use Rattle.steps.specs.declared.Answer.the-variants.{Entered, Resumed}
 use Rattle.steps.specs.declared.Step.{Step}
 use Rattle.steps.specs.declared.Step.the-variants.{Reset, Registers, Read, Write, PortRead, PortWrite, Opcode, Boundary, UnnamedBoundary, Halt, Wake}
+use Rattle.steps.specs.declared.Interruption.{Interruption}
+use Rattle.opcodes.specs.declared.Operation.the-variants.{Smint}
+use Rattle.opcodes.specs.Decode.{decoded}
 use Rattle.config.specs.Settings.{regionIn, headerPlace}
 use Rattle.header.specs.declared.Saved.{Saved}
 use Rattle.header.specs.declared.Level.the-variants.{Zero}
@@ -28,7 +31,12 @@ pub record OnlyHeader (g g′ : List ℕ) (at : ℕ) (bytes : List ℕ) : Type 0
   pub header : (i : ℕ) → i < 48 → getD g′ (at + i) 0 ≡ getD bytes i 0
   pub above : (i : ℕ) → at + 48 ≤ i → getD g′ i 0 ≡ getD g i 0
 
--- what a step that enters records, and how it leaves the latch. Only a boundary and SMINT enter.
+-- the steps that enter: a boundary, and SMINT
+pub data Entering : Step → Type 0 where
+  at-boundary : {smi current : ℕ} {i : Interruption} → Entering (Boundary smi current i)
+  by-smint : {op modrm a next : ℕ} → decoded op modrm ≡ Smint → Entering (Opcode op modrm a next)
+
+-- what a step that enters records, and how it leaves the latch; no other step enters
 abbrev pub savedBy : Machine → Step → Saved
 savedBy m Reset = savedBySmint m 0
 savedBy m (Registers eip eflags cr0 dr7 selector descriptor level writable) = savedBySmint m 0
@@ -57,6 +65,7 @@ latchAfter m Wake = false
 
 -- "Entry writes the 48 header bytes exactly and loads the stated entry state": m and x are before the step s, and o is after it
 pub record Entry (m : Machine) (x : Memories) (s : Step) (o : Outcome) : Type 0 where
+  pub by : Entering s
   pub eip : o .stepped .machine .registers .eip ≡ 0
   pub eflags : o .stepped .machine .registers .eflags ≡ 2
   pub dr7 : o .stepped .machine .registers .dr7 ≡ 0x400

@@ -5,7 +5,7 @@ ghost use Rattle.steps.specs.Steps.{isWidth, malformed};
 ghost use Rattle.machine.specs.Machines.{withRegisters, withHalted, withLatched, withSegments, segmentIn, withSegment, segment, resetMachine};
 ghost use Rattle.machine.specs.Outcomes.{gives, ends, manages};
 ghost use Rattle.machine.specs.Service.{enteredMachine, entry, entryAtBoundary, entryBySmint, boundary, resume, permitted};
-ghost use Rattle.machine.specs.Steps.{malformedOn, window, dataRead, dataWrite, ported, advanced, saved, restored, opcode, performed, stepped};
+ghost use Rattle.machine.specs.Steps.{malformedOn, window, dataRead, dataWrite, ported, valid, advanced, saved, restored, opcode, performed, stepped};
 use config::Accessed;
 use config::Config;
 use config::Settings;
@@ -417,6 +417,16 @@ impl Machine {
         }
     }
 
+    fn is_valid(self, o: Operation) -> bool
+        ensures { λ r. ⌜ r ≡ valid self o ⌝ }
+    {
+        if self.permits() {
+            o.is_allowed(self.inside)
+        } else {
+            false
+        }
+    }
+
     fn operate(
         self,
         main: &mut [u8],
@@ -428,22 +438,12 @@ impl Machine {
         ensures { λ r. ⌜ ends r (memories (now (main .exit)) (now (management .exit)))
             ≡ opcode self (memories (now (main .entry)) (now (management .entry))) o address next ⌝ }
     {
-        if self.permits() {
+        if self.is_valid(o) {
             return match o {
                 Operation::Save(name) => self.save(main, management, name, address, next),
                 Operation::Restore(name) => self.restore(main, management, name, address, next),
-                Operation::Smint => {
-                    if self.inside {
-                        return self.answers(Answer::Invalid);
-                    }
-                    self.enter_by_smint(management, next)
-                }
-                Operation::Rsm => {
-                    if self.inside {
-                        return self.resume(management);
-                    }
-                    self.answers(Answer::Invalid)
-                }
+                Operation::Smint => self.enter_by_smint(management, next),
+                Operation::Rsm => self.resume(management),
                 Operation::Undefined => self.answers(Answer::Invalid),
             };
         }

@@ -1,5 +1,5 @@
 ghost use mathlib.Core.Path.{_≡_};
-ghost use Rattle.opcodes.specs.Decode.{dataSegment, svdc, rsdc, plain, grouped, decoded};
+ghost use Rattle.opcodes.specs.Decode.{dataSegment, svdc, rsdc, plain, grouped, decoded, allowed};
 
 // A segment register by its name.
 pub enum SegmentName {
@@ -94,4 +94,19 @@ pub fn decode(opcode: u8, modrm: u8) -> Operation
         return Operation::Undefined;
     }
     grouped_of(opcode, modrm / 8 % 8)
+}
+
+impl Operation {
+    // Whether the operation may run inside, or outside, management mode.
+    pub fn is_allowed(self, inside: bool) -> bool
+        ensures { λ r. ⌜ r ≡ allowed inside self ⌝ }
+    {
+        match self {
+            Operation::Save(_) => true,
+            Operation::Restore(_) => true,
+            Operation::Smint => !inside,
+            Operation::Rsm => inside,
+            Operation::Undefined => false,
+        }
+    }
 }
