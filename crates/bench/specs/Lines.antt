@@ -1,0 +1,131 @@
+-- 01, "Bench sheet": the P lines as one table, and the fact about the rules that each row states.
+use Prim.Native.Nat.{ℕ, _+_, _*_, _-_, _<_}
+use mathlib.Core.Path.{_≡_}
+use mathlib.Core.Bool.{Bool, true, false}
+use mathlib.Core.List.{List, [], _∷_}
+use lib.ListN.{length, getD}
+use Rattle.region.specs.declared.Region.{Region}
+use Rattle.region.specs.Region.{regionOf, sizeOf, usable}
+use Rattle.steps.specs.declared.Interruption.the-variants.{Output}
+use Rattle.config.specs.declared.Settings.{Settings}
+use Rattle.config.specs.Settings.{smiLock, regionIn, headerPlace, written}
+use Rattle.header.specs.declared.Level.{Level}
+use Rattle.header.specs.declared.Level.the-variants.{Zero, Three}
+use Rattle.header.specs.declared.Registers.{Registers}
+use Rattle.header.specs.declared.Saved.{Saved}
+use Rattle.header.specs.Words.{number, wordAt}
+use Rattle.header.specs.Header.{trapOf, headerBytes}
+use Rattle.header.specs.Entry.{entryRegisters}
+
+abbrev pub region : ℕ → ℕ → Region
+region base code = record { base = base; code = code }
+
+abbrev pub outside : Bool
+outside = false
+
+-- A row: what is given, and then what the sheet says of it. A new kind of row is a constructor more, with a clause of `holds` and, in
+-- proofs/Sheet.antt, of `test` and `sound`.
+pub data Line : Type 0 where
+  -- the bytes CDh, CEh and CFh; the base, the code and the size of the region they name
+  Smar : (high middle low base code size : ℕ) → Line
+  -- base and code; is the region usable
+  IsUsable : (base code : ℕ) (answer : Bool) → Line
+  -- base and code; the first and the last byte of the header in the region
+  HeaderAt : (base code first last : ℕ) → Line
+  -- base and code; the CS selector that entry loads
+  EntryCs : (base code selector : ℕ) → Line
+  -- CR0 before entry and after
+  EntryCr0 : (before after : ℕ) → Line
+  -- level and CS selector; the header's word at -18h
+  LevelWord : (level : Level) (selector word : ℕ) → Line
+  -- CCR1 before a write under the lock outside the mode, the byte written, and CCR1 after
+  LockedCcr1 : (before value after : ℕ) → Line
+  -- what entry saves; the header's 48 bytes upward
+  Header : (saved : Saved) (bytes : List ℕ) → Line
+
+-- What a row states of the rules, whatever else a machine holds.
+abbrev pub holds : Line → Type 0
+holds (Smar high middle low base code size) = (regionOf high middle low ≡ region base code) × (sizeOf code ≡ size)
+holds (IsUsable base code answer) = usable (region base code) ≡ answer
+holds (HeaderAt base code first last) =
+    (s : Settings) → regionIn s ≡ region base code
+    → (headerPlace s ≡ first) × ((x : Saved) → first + length (headerBytes x) ≡ last + 1)
+holds (EntryCs base code selector) = (r : Registers) → entryRegisters r (region base code .base) .cs .selector ≡ selector
+holds (EntryCr0 before after) = (r : Registers) (base : ℕ) → r .cr0 ≡ before → entryRegisters r base .cr0 ≡ after
+holds (LevelWord level selector word) =
+    (x : Saved) → x .registers .level ≡ level → x .registers .cs .selector ≡ selector → wordAt (headerBytes x) (48 - 0x18) ≡ word
+holds (LockedCcr1 before value after) =
+    (s : Settings) → smiLock s ≡ true → s .ccr1 ≡ before → written s 0xc1 value outside .ccr1 ≡ after
+holds (Header saved bytes) = headerBytes saved ≡ bytes
+
+-- P11: "DR7 400h, EFLAGS 202h, CR0 E0000011h, current 1000h, EIP 1002h, CS 0008h FF FF 00 00 00 9B CF 00, level 0, not writable, output of
+-- byte FEh to 64h". Next IP is EIP.
+abbrev pub savedInP11 : Saved
+savedInP11 = record {
+  registers = record {
+    eip = 0x1002;
+    eflags = 0x202;
+    cr0 = 0xe0000011;
+    dr7 = 0x400;
+    cs = record { selector = 0x0008; descriptor = number (0xff ∷ 0xff ∷ 0x00 ∷ 0x00 ∷ 0x00 ∷ 0x9b ∷ 0xcf ∷ 0x00 ∷ []) };
+    level = Zero;
+    writable = false;
+  };
+  current = 0x1000;
+  next = 0x1002;
+  trap = trapOf (Output (record { port = 0x64; size = 1; value = 0xfe }));
+  smint = false;
+  halted = false;
+}
+
+unfoldable pub sheet : List Line
+sheet =
+    -- "Region": SMAR 000384h is 32 KiB at 38000h, 000305h is 64 KiB at 30000h, 000683h is 16 KiB at 68000h
+    Smar 0x00 0x03 0x84 0x38000 4 0x8000
+    ∷ Smar 0x00 0x03 0x05 0x30000 5 0x10000
+    ∷ Smar 0x00 0x06 0x83 0x68000 3 0x4000
+    -- P1
+    ∷ HeaderAt 0x68000 3 0x3fd0 0x3fff
+    ∷ EntryCs 0x68000 3 0x6800
+    -- P2
+    ∷ EntryCs 0x123000 1 0x2300
+    -- P3
+    ∷ IsUsable 0x39000 1 true
+    -- P4
+    ∷ IsUsable 0x39000 2 false
+    -- P5
+    ∷ IsUsable 0x30000 5 true
+    -- P6
+    ∷ IsUsable 0x30000 6 false
+    -- P7
+    ∷ EntryCr0 0xe0000011 0x60000010
+    -- P8
+    ∷ LevelWord Three 0x001b 0x0060001b
+    -- P9
+    ∷ LockedCcr1 0x06 0x00 0x06
+    -- P10
+    ∷ LockedCcr1 0x06 0xf1 0xf7
+    -- P11
+    ∷ Header savedInP11
+    (0x00 ∷ 0x00 ∷ 0x00 ∷ 0x00
+    ∷ 0xfe ∷ 0x00 ∷ 0x00 ∷ 0x00
+    ∷ 0x64 ∷ 0x00 ∷ 0x01 ∷ 0x00
+    ∷ 0x02 ∷ 0x00 ∷ 0x00 ∷ 0x00
+    ∷ 0xff ∷ 0xff ∷ 0x00 ∷ 0x00
+    ∷ 0x00 ∷ 0x9b ∷ 0xcf ∷ 0x00
+    ∷ 0x08 ∷ 0x00 ∷ 0x00 ∷ 0x00
+    ∷ 0x02 ∷ 0x10 ∷ 0x00 ∷ 0x00
+    ∷ 0x00 ∷ 0x10 ∷ 0x00 ∷ 0x00
+    ∷ 0x11 ∷ 0x00 ∷ 0x00 ∷ 0xe0
+    ∷ 0x02 ∷ 0x02 ∷ 0x00 ∷ 0x00
+    ∷ 0x00 ∷ 0x04 ∷ 0x00 ∷ 0x00
+    ∷ [])
+    ∷ []
+
+-- the row at a place below a table's length
+abbrev pub rowAt : List Line → ℕ → Line
+rowAt ls k = getD ls k (IsUsable 0 0 false)
+
+-- "The P lines are shown to follow from the rules by one proof over one table."
+abbrev pub SheetHolds : Type 0
+SheetHolds = (k : ℕ) → k < length sheet → holds (rowAt sheet k)
