@@ -26,7 +26,8 @@ abbrev pub regionIn : Settings → Region
 regionIn s = regionOf (s .high) (s .middle) (s .low)
 
 -- "A data or operand byte goes to management memory when its address is in a usable region, USE_SMI is 1, and either the machine is
--- outside the mode with SMAC 1, or inside with MMAC 0. All else goes to main."
+-- outside the mode with SMAC 1, or inside with MMAC 0. All else goes to main." That the region is usable is part of being in it: a
+-- window of code 0 has no address.
 unfoldable pub windowOf : Settings → Bool → Region
 windowOf s inside =
     cond (useSmi s && cond inside (not (mmac s)) (smac s)) (regionIn s) (record { base = regionIn s .base; code = 0 })
@@ -39,7 +40,7 @@ enabled s = useSmi s && not (smac s) && usable (regionIn s)
 unfoldable pub headerPlace : Settings → ℕ
 headerPlace s = sizeOf (regionIn s .code) - 48
 
--- the stored byte at an internal index. "Internal indexes that aren't named above read 0 and drop writes."
+-- the stored byte at an index, 0 at one that names none. "Internal indexes that aren't named above read 0 and drop writes."
 unfoldable pub byteOf : Settings → ℕ → ℕ
 byteOf s i =
     cond (eqb i 0xc1) (s .ccr1)
@@ -70,7 +71,8 @@ stickyBits i = cond (eqb i 0xc3) 0x01 0
 unfoldable pub keptBits : Settings → ℕ → Bool → ℕ
 keptBits s i inside = cond (smiLock s) (cond inside (stickyBits i) (lockedBits i)) 0
 
--- of the lowest bits, as many as given: those of old where the mask has them, and those of v elsewhere; the bits above are old's
+-- Of the lowest n bits, those of old where the mask has them and those of v elsewhere. Above them are old's, of which a byte has none:
+-- so a byte whose bits are all kept is old itself.
 unfoldable pub mergedBits : ℕ → ℕ → ℕ → ℕ → ℕ
 mergedBits zero mask old v = old
 mergedBits (suc n) mask old v = cond (eqb (mask % 2) 1) (old % 2) (v % 2) + 2 * mergedBits n (mask / 2) (old / 2) (v / 2)

@@ -22,17 +22,18 @@ levelNumber One = 1
 levelNumber Two = 2
 levelNumber Three = 3
 
+-- the level of a number; the steps refuse one above 3, and the header has room for none
 abbrev pub levelOf : ℕ → Level
 levelOf n = cond (eqb n 0) Zero (cond (eqb n 1) One (cond (eqb n 2) Two Three))
 
--- "port bits 15-0, size 1h, 3h or Fh in bits 31-16"
+-- "port bits 15-0, size 1h, 3h or Fh in bits 31-16", for sizes 1, 2 and 4; the steps refuse any other
 unfoldable pub sizeBits : ℕ → ℕ
 sizeBits size = cond (eqb size 1) 0x1 (cond (eqb size 2) 0x3 0xf)
 
 abbrev pub portSize : Transfer → ℕ
 portSize t = t .port + 65536 * sizeBits (t .size)
 
--- "output data cut to its size", of 1, 2 or 4 bytes
+-- "output data cut to its size", for sizes 1, 2 and 4
 unfoldable pub cut : Transfer → ℕ
 cut t = cond (eqb (t .size) 1) (t .value % 256) (cond (eqb (t .size) 2) (t .value % 65536) (t .value))
 

@@ -8,7 +8,8 @@ use Rattle.region.specs.declared.Region.{Region}
 unfoldable pub regionOf : ℕ → ℕ → ℕ → Region
 regionOf high middle low = record { base = high * 16777216 + middle * 65536 + low / 16 * 4096; code = low % 16 }
 
--- "Size code n from 1 to 14 means 4,096 times 2^(n-1) bytes, 0 means none, 15 means 4 GiB." A code has four bits: only 15 is above 14.
+-- "Size code n from 1 to 14 means 4,096 times 2^(n-1) bytes, 0 means none, 15 means 4 GiB." SMAR's code has four bits, so that
+-- only 15 is above 14.
 unfoldable pub sizeOf : ℕ → ℕ
 sizeOf n = cond (eqb n 0) 0 (cond (leb n 14) (4096 * 2 ^ (n - 1)) 4294967296)
 

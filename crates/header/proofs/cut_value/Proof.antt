@@ -5,20 +5,17 @@ use Rattle.header.proofs.cut_value.Tie as tie
 use Rattle.header.proofs.cut_value.Reads as reads
 use Rattle.header.proofs.cut_value.Lts as lts
 
--- src/lib.rt:94:1
 returns : tie.Need-returns
 unfolding cut
-returns c = rw ((c .before .match .keys1))
+returns c = rw (c .before .match .keys1)
 
--- src/lib.rt:94:1
 returns-2 : tie.Need-returns-2
 unfolding cut
-returns-2 c = rw ((c .before .match .keys2))
+returns-2 c = rw (c .before .match .keys2)
 
--- src/lib.rt:94:1
 returns-3 : tie.Need-returns-3
 unfolding cut
-returns-3 c = simp (ne-eqb _ _ ((c .match .rest .1)), ne-eqb _ _ ((c .match .rest .0 .1)))
+returns-3 c = simp (ne-eqb _ _ (c .match .rest .1), ne-eqb _ _ (c .match .rest .0 .1))
 
 pub cut-value-spec : {M : Type 1} → statement M
 cut-value-spec = tie.close (tie.spec returns returns-2 returns-3)

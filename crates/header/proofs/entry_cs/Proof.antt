@@ -8,31 +8,24 @@ use Rattle.header.proofs.entry_cs.Tie as tie
 use Rattle.header.proofs.entry_cs.Reads as reads
 use Rattle.header.proofs.entry_cs.Lts as lts
 
--- src/lib.rt:278:20
 mul-t4 : tie.Need-mul-t4
 mul-t4 c = search needs
 
--- src/lib.rt:278:19
 cast-t5 : tie.Need-cast-t5
 cast-t5 c = search needs
 
--- src/lib.rt:280:15
 mul-t8 : tie.Need-mul-t8
 mul-t8 c = search needs
 
--- src/lib.rt:279:21
 add-t9 : tie.Need-add-t9
 add-t9 c = search needs
 
--- src/lib.rt:281:15
 mul-t12 : tie.Need-mul-t12
 mul-t12 c = search needs
 
--- src/lib.rt:279:21
 add-t13 : tie.Need-add-t13
 add-t13 c = search needs
 
--- src/lib.rt:274:1
 returns : tie.Need-returns
 unfolding entryCs
 returns c = let b = (c .args .base) in

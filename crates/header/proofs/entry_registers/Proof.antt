@@ -6,14 +6,12 @@ use Rattle.header.proofs.entry_registers.Reads as reads
 use Rattle.header.proofs.entry_registers.Lts as lts
 use Rattle.header.proofs.entry_cs.Reads as entry-cs-reads
 
--- src/lib.rt:289:9
 entry-cs-requires : tie.Need-entry-cs-requires
 entry-cs-requires c κs = search needs
 
--- src/lib.rt:286:1
 returns : tie.Need-returns
 unfolding entryRegisters entryCr0
-returns c = rw ((c .before .entry-cs .ensures))
+returns c = rw (c .before .entry-cs .ensures)
 
 pub entry-registers-spec : {M : Type 1} → statement M
 entry-registers-spec = tie.close (tie.spec entry-cs-requires returns)

@@ -8,21 +8,17 @@ use Rattle.header.proofs.get.Reads as reads
 use Rattle.header.proofs.get.Lts as lts
 use Rattle.header.proofs.wide.Reads as wide-reads
 
--- src/lib.rt:225:21
 shared-slice-read-wide : tie.Need-shared-slice-read-wide
 shared-slice-read-wide c = search needs
 
--- src/lib.rt:225:9
 wide-requires : tie.Need-wide-requires
 wide-requires c κs = search needs
 
--- src/lib.rt:225:9
 returns : tie.Need-returns
 returns c = search needs
 
--- src/lib.rt:221:1
 returns-2 : tie.Need-returns-2
-returns-2 c = (sym (List·getD-eq-default ((c .before .before .args .area .now)) 0 ((c .if1 .left))), omega arith)
+returns-2 c = (sym (List·getD-eq-default (c .before .before .args .area .now) 0 (c .if1 .left)), omega arith)
 
 pub get-spec : {M : Type 1} → statement M
 get-spec = tie.close (tie.spec shared-slice-read-wide wide-requires returns returns-2)

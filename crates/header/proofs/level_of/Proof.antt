@@ -4,21 +4,17 @@ use Rattle.header.proofs.level_of.Tie as tie
 use Rattle.header.proofs.level_of.Reads as reads
 use Rattle.header.proofs.level_of.Lts as lts
 
--- src/lib.rt:64:1
 returns : tie.Need-returns
-returns c = rw ((c .match .keys1))
+returns c = rw (c .match .keys1)
 
--- src/lib.rt:64:1
 returns-2 : tie.Need-returns-2
-returns-2 c = rw ((c .match .keys2))
+returns-2 c = rw (c .match .keys2)
 
--- src/lib.rt:64:1
 returns-3 : tie.Need-returns-3
-returns-3 c = rw ((c .match .keys3))
+returns-3 c = rw (c .match .keys3)
 
--- src/lib.rt:64:1
 returns-4 : tie.Need-returns-4
-returns-4 c = simp (ne-eqb _ _ ((c .match .rest .1)), ne-eqb _ _ ((c .match .rest .0 .1)), ne-eqb _ _ ((c .match .rest .0 .0 .1)))
+returns-4 c = simp (ne-eqb _ _ (c .match .rest .1), ne-eqb _ _ (c .match .rest .0 .1), ne-eqb _ _ (c .match .rest .0 .0 .1))
 
 pub level-of-spec : {M : Type 1} → statement M
 level-of-spec = tie.close (tie.spec returns returns-2 returns-3 returns-4)

@@ -6,21 +6,17 @@ use Rattle.header.proofs.put.Tie as tie
 use Rattle.header.proofs.put.Reads as reads
 use Rattle.header.proofs.put.Lts as lts
 
--- src/lib.rt:185:9
 slice-write-area : tie.Need-slice-write-area
 slice-write-area c = search needs
 
--- src/lib.rt:181:1
 same-length : tie.Need-same-length
 same-length c = search needs
 
--- src/lib.rt:181:1
 returns : tie.Need-returns
 returns c = search needs
 
--- src/lib.rt:181:1
 returns-2 : tie.Need-returns-2
-returns-2 c = sym (set-out _ _ _ ((c .if1 .left)))
+returns-2 c = sym (set-out _ _ _ (c .if1 .left))
 
 pub put-spec : {M : Type 1} → statement M
 put-spec = tie.close (tie.spec slice-write-area same-length returns returns-2)

@@ -18,40 +18,31 @@ Inv-loop area₀ at words i₀ area i = (i ≤ length words) × (length area ≡
 abbrev μ-loop : tie.MeasureT-loop
 μ-loop area₀ at words i₀ area i = length words - i
 
--- src/lib.rt:24:5
 loop-holds : tie.Need-loop-holds Inv-loop μ-loop
 loop-holds c = let s = c .before .before .args in
     (omega arith, refl, all-left (s .area .now) (s .words .now) (s .at))
 
--- src/lib.rt:25:29
 mul-put-word : tie.Need-mul-put-word Inv-loop μ-loop
 mul-put-word c = search needs
 
--- src/lib.rt:25:24
 add-put-word : tie.Need-add-put-word Inv-loop μ-loop
 add-put-word c = search needs
 
--- src/lib.rt:25:36
 mul-put-word-2 : tie.Need-mul-put-word-2 Inv-loop μ-loop
 mul-put-word-2 c = search needs
 
--- src/lib.rt:25:36
 shared-slice-read-put-word : tie.Need-shared-slice-read-put-word Inv-loop μ-loop
 shared-slice-read-put-word c = search needs
 
--- src/lib.rt:25:9
 put-word-requires : tie.Need-put-word-requires Inv-loop μ-loop
 put-word-requires c κs = search needs
 
--- src/lib.rt:26:13
 add-i : tie.Need-add-i Inv-loop μ-loop
 add-i c = search needs
 
--- src/lib.rt:24:5
 loop-less : tie.Need-loop-less Inv-loop μ-loop
 loop-less c = search needs
 
--- src/lib.rt:24:5
 loop-again : tie.Need-loop-again Inv-loop μ-loop
 loop-again c = let p = c .before .before .put-word in
     let l = c .before .before .before .before .before .before .loop in
@@ -61,11 +52,9 @@ loop-again c = let p = c .before .before .put-word in
       turn (l .area) (p .last .0) _ (s .args .words .now) (s .args .at) (l .i) (omega arith) (p .ensures) (l .inv .2),
     )
 
--- src/lib.rt:19:1
 same-length : tie.Need-same-length Inv-loop μ-loop
 same-length c = c .before .loop .inv .1
 
--- src/lib.rt:19:1
 returns : tie.Need-returns Inv-loop μ-loop
 returns c = let s = c .before .before .before .before in
     sym (none-left (c .before .loop .area) (s .args .words .now) (s .args .at) (c .before .loop .i) (omega arith)) ∙ c .before .loop .inv .2

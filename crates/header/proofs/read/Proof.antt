@@ -7,99 +7,75 @@ use Rattle.header.proofs.read.Lts as lts
 use Rattle.header.proofs.level_of.Reads as level-of-reads
 use Rattle.header.proofs.word_at.Reads as word-at-reads
 
--- src/lib.rt:249:37
 add-word-at : tie.Need-add-word-at
 add-word-at c = search needs
 
--- src/lib.rt:249:9
 word-at-requires : tie.Need-word-at-requires
 word-at-requires c κs = search needs
 
--- src/lib.rt:250:35
 add-word-at-2 : tie.Need-add-word-at-2
 add-word-at-2 c = search needs
 
--- src/lib.rt:250:9
 word-at-requires-2 : tie.Need-word-at-requires-2
 word-at-requires-2 c κs = search needs
 
--- src/lib.rt:251:36
 add-word-at-3 : tie.Need-add-word-at-3
 add-word-at-3 c = search needs
 
--- src/lib.rt:251:9
 word-at-requires-3 : tie.Need-word-at-requires-3
 word-at-requires-3 c κs = search needs
 
--- src/lib.rt:252:40
 add-word-at-4 : tie.Need-add-word-at-4
 add-word-at-4 c = search needs
 
--- src/lib.rt:252:9
 word-at-requires-4 : tie.Need-word-at-requires-4
 word-at-requires-4 c κs = search needs
 
--- src/lib.rt:253:35
 add-word-at-5 : tie.Need-add-word-at-5
 add-word-at-5 c = search needs
 
--- src/lib.rt:253:9
 word-at-requires-5 : tie.Need-word-at-requires-5
 word-at-requires-5 c κs = search needs
 
--- src/lib.rt:254:35
 add-word-at-6 : tie.Need-add-word-at-6
 add-word-at-6 c = search needs
 
--- src/lib.rt:254:9
 word-at-requires-6 : tie.Need-word-at-requires-6
 word-at-requires-6 c κs = search needs
 
--- src/lib.rt:255:38
 add-word-at-7 : tie.Need-add-word-at-7
 add-word-at-7 c = search needs
 
--- src/lib.rt:255:9
 word-at-requires-7 : tie.Need-word-at-requires-7
 word-at-requires-7 c κs = search needs
 
--- src/lib.rt:256:35
 add-word-at-8 : tie.Need-add-word-at-8
 add-word-at-8 c = search needs
 
--- src/lib.rt:256:9
 word-at-requires-8 : tie.Need-word-at-requires-8
 word-at-requires-8 c κs = search needs
 
--- src/lib.rt:258:19
 cast-t16 : tie.Need-cast-t16
 cast-t16 c = search needs
 
--- src/lib.rt:259:21
 cast-t17 : tie.Need-cast-t17
 cast-t17 c = search needs
 
--- src/lib.rt:259:48
 cast-t18 : tie.Need-cast-t18
 cast-t18 c = search needs
 
--- src/lib.rt:259:34
 mul-t19 : tie.Need-mul-t19
 mul-t19 c = search needs
 
--- src/lib.rt:259:21
 add-t20 : tie.Need-add-t20
 add-t20 c = search needs
 
--- src/lib.rt:261:26
 cast-level-of : tie.Need-cast-level-of
 cast-level-of c = search needs
 
--- src/lib.rt:261:9
 level-of-requires : tie.Need-level-of-requires
 level-of-requires c κs = search needs
 
--- src/lib.rt:245:1
 returns : tie.Need-returns
 unfolding resumed
 returns c = rw ((c .level-of .ensures), (c .before .before .before .before .before .before .before .before .word-at .ensures), (c .before .before .before .before .before .before .before .word-at2 .ensures), (c .before .before .before .before .before .before .word-at3 .ensures), (c .before .before .before .before .before .word-at4 .ensures), (c .before .before .before .before .word-at5 .ensures), (c .before .before .before .word-at6 .ensures), (c .before .before .word-at7 .ensures), (c .before .word-at8 .ensures))

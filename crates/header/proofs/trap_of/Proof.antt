@@ -6,89 +6,68 @@ use Rattle.header.proofs.trap_of.Lts as lts
 use Rattle.header.proofs.input_trap.Reads as input-trap-reads
 use Rattle.header.proofs.output_trap.Reads as output-trap-reads
 
--- src/lib.rt:134:31
 enum-told : tie.Need-enum-told
 enum-told c = search needs
 
--- src/lib.rt:134:31
 input-trap-requires : tie.Need-input-trap-requires
 input-trap-requires c κs = search needs
 
--- src/lib.rt:135:32
 enum-told-2 : tie.Need-enum-told-2
 enum-told-2 c = search needs
 
--- src/lib.rt:135:32
 input-trap-requires-2 : tie.Need-input-trap-requires-2
 input-trap-requires-2 c κs = search needs
 
--- src/lib.rt:136:30
 enum-known-i : tie.Need-enum-known-i
 enum-known-i c = search needs
 
--- src/lib.rt:136:36
 output-trap-requires : tie.Need-output-trap-requires
 output-trap-requires c κs = search needs
 
--- src/lib.rt:137:35
 enum-known-i-2 : tie.Need-enum-known-i-2
 enum-known-i-2 c = search needs
 
--- src/lib.rt:137:41
 input-trap-requires-3 : tie.Need-input-trap-requires-3
 input-trap-requires-3 c κs = search needs
 
--- src/lib.rt:138:36
 enum-known-i-3 : tie.Need-enum-known-i-3
 enum-known-i-3 c = search needs
 
--- src/lib.rt:138:45
 output-trap-requires-2 : tie.Need-output-trap-requires-2
 output-trap-requires-2 c κs = search needs
 
--- src/lib.rt:139:32
 enum-known-i-4 : tie.Need-enum-known-i-4
 enum-known-i-4 c = search needs
 
--- src/lib.rt:139:38
 input-trap-requires-4 : tie.Need-input-trap-requires-4
 input-trap-requires-4 c κs = search needs
 
--- src/lib.rt:140:33
 enum-known-i-5 : tie.Need-enum-known-i-5
 enum-known-i-5 c = search needs
 
--- src/lib.rt:140:42
 output-trap-requires-3 : tie.Need-output-trap-requires-3
 output-trap-requires-3 c κs = search needs
 
--- src/lib.rt:130:1
 returns : tie.Need-returns
-returns c = rw ((c .before .enum-told .given .1)) ((c .input-trap .ensures))
+returns c = rw (c .before .enum-told .given .1) (c .input-trap .ensures)
 
--- src/lib.rt:130:1
 returns-2 : tie.Need-returns-2
-returns-2 c = rw ((c .before .enum-told2 .given .1)) ((c .input-trap2 .ensures))
+returns-2 c = rw (c .before .enum-told2 .given .1) (c .input-trap2 .ensures)
 
--- src/lib.rt:130:1
 returns-3 : tie.Need-returns-3
-returns-3 c = rw ((c .before .before .i .given .1)) ((c .output-trap .ensures))
+returns-3 c = rw (c .before .before .i .given .1) (c .output-trap .ensures)
 
--- src/lib.rt:130:1
 returns-4 : tie.Need-returns-4
-returns-4 c = rw ((c .before .before .i2 .given .1)) ((c .input-trap3 .ensures))
+returns-4 c = rw (c .before .before .i2 .given .1) (c .input-trap3 .ensures)
 
--- src/lib.rt:130:1
 returns-5 : tie.Need-returns-5
-returns-5 c = rw ((c .before .before .i3 .given .1)) ((c .output-trap2 .ensures))
+returns-5 c = rw (c .before .before .i3 .given .1) (c .output-trap2 .ensures)
 
--- src/lib.rt:130:1
 returns-6 : tie.Need-returns-6
-returns-6 c = rw ((c .before .before .i4 .given .1)) ((c .input-trap4 .ensures))
+returns-6 c = rw (c .before .before .i4 .given .1) (c .input-trap4 .ensures)
 
--- src/lib.rt:130:1
 returns-7 : tie.Need-returns-7
-returns-7 c = rw ((c .before .before .i5 .given .1)) ((c .output-trap3 .ensures))
+returns-7 c = rw (c .before .before .i5 .given .1) (c .output-trap3 .ensures)
 
 pub trap-of-spec : {M : Type 1} → statement M
 trap-of-spec =

@@ -7,59 +7,45 @@ use Rattle.header.proofs.word_at.Reads as reads
 use Rattle.header.proofs.word_at.Lts as lts
 use Rattle.header.proofs.get.Reads as get-reads
 
--- src/lib.rt:241:5
 get-requires : tie.Need-get-requires
 get-requires c κs = search needs
 
--- src/lib.rt:241:38
 add-get : tie.Need-add-get
 add-get c = search needs
 
--- src/lib.rt:241:28
 get-requires-2 : tie.Need-get-requires-2
 get-requires-2 c κs = search needs
 
--- src/lib.rt:241:65
 add-get-2 : tie.Need-add-get-2
 add-get-2 c = search needs
 
--- src/lib.rt:241:55
 get-requires-3 : tie.Need-get-requires-3
 get-requires-3 c κs = search needs
 
--- src/lib.rt:241:91
 add-get-3 : tie.Need-add-get-3
 add-get-3 c = search needs
 
--- src/lib.rt:241:81
 get-requires-4 : tie.Need-get-requires-4
 get-requires-4 c κs = search needs
 
--- src/lib.rt:241:75
 mul-result : tie.Need-mul-result
 mul-result c = search needs
 
--- src/lib.rt:241:55
 add-result : tie.Need-add-result
 add-result c = search needs
 
--- src/lib.rt:241:48
 mul-result-2 : tie.Need-mul-result-2
 mul-result-2 c = search needs
 
--- src/lib.rt:241:28
 add-result-2 : tie.Need-add-result-2
 add-result-2 c = search needs
 
--- src/lib.rt:241:21
 mul-result-3 : tie.Need-mul-result-3
 mul-result-3 c = search needs
 
--- src/lib.rt:241:5
 add-result-3 : tie.Need-add-result-3
 add-result-3 c = search needs
 
--- src/lib.rt:237:1
 returns : tie.Need-returns
 unfolding wordAt
 returns c = omega (arith, (c .before .before .before .get .ensures .0), (c .before .before .get2 .ensures .0), (c .before .get3 .ensures .0), (c .get4 .ensures .0))

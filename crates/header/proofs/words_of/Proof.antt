@@ -6,83 +6,63 @@ use Rattle.header.proofs.words_of.Lts as lts
 use Rattle.header.proofs.flag.Reads as flag-reads
 use Rattle.header.proofs.level_number.Reads as level-number-reads
 
--- src/lib.rt:158:9
 level-number-requires : tie.Need-level-number-requires
 level-number-requires c κs = search needs
 
--- src/lib.rt:159:17
 flag-requires : tie.Need-flag-requires
 flag-requires c κs = search needs
 
--- src/lib.rt:160:15
 flag-requires-2 : tie.Need-flag-requires-2
 flag-requires-2 c κs = search needs
 
--- src/lib.rt:160:11
 mul-flags : tie.Need-mul-flags
 mul-flags c = search needs
 
--- src/lib.rt:159:17
 add-flags : tie.Need-add-flags
 add-flags c = search needs
 
--- src/lib.rt:161:15
 flag-requires-3 : tie.Need-flag-requires-3
 flag-requires-3 c κs = search needs
 
--- src/lib.rt:161:11
 mul-flags-2 : tie.Need-mul-flags-2
 mul-flags-2 c = search needs
 
--- src/lib.rt:159:17
 add-flags-2 : tie.Need-add-flags-2
 add-flags-2 c = search needs
 
--- src/lib.rt:162:15
 flag-requires-4 : tie.Need-flag-requires-4
 flag-requires-4 c κs = search needs
 
--- src/lib.rt:162:11
 mul-flags-3 : tie.Need-mul-flags-3
 mul-flags-3 c = search needs
 
--- src/lib.rt:159:17
 add-flags-3 : tie.Need-add-flags-3
 add-flags-3 c = search needs
 
--- src/lib.rt:163:16
 flag-requires-5 : tie.Need-flag-requires-5
 flag-requires-5 c κs = search needs
 
--- src/lib.rt:163:11
 mul-flags-4 : tie.Need-mul-flags-4
 mul-flags-4 c = search needs
 
--- src/lib.rt:159:17
 add-flags-4 : tie.Need-add-flags-4
 add-flags-4 c = search needs
 
--- src/lib.rt:169:9
 cast-t8 : tie.Need-cast-t8
 cast-t8 c = search needs
 
--- src/lib.rt:170:9
 cast-t19 : tie.Need-cast-t19
 cast-t19 c = search needs
 
--- src/lib.rt:171:9
 cast-t18 : tie.Need-cast-t18
 cast-t18 c = search needs
 
--- src/lib.rt:171:30
 mul-t17 : tie.Need-mul-t17
 mul-t17 c = search needs
 
--- src/lib.rt:171:9
 add-t16 : tie.Need-add-t16
 add-t16 c = search needs
 
--- src/lib.rt:151:1
 returns : tie.Need-returns
 returns c = rw ((c .before .before .before .before .before .before .before .before .level-number .ensures .0), (c .before .before .before .before .before .before .before .flag .ensures .0), (c .before .before .before .before .before .before .flag2 .ensures .0), (c .before .before .before .before .before .flag3 .ensures .0), (c .before .before .before .before .flag4 .ensures .0), (c .before .before .before .flag5 .ensures .0))
 

@@ -9,23 +9,18 @@ use Rattle.header.proofs.write.Lts as lts
 use Rattle.header.proofs.put_words.Reads as put-words-reads
 use Rattle.header.proofs.words_of.Reads as words-of-reads
 
--- src/lib.rt:216:17
 words-of-requires : tie.Need-words-of-requires
 words-of-requires c κs = search needs
 
--- src/lib.rt:217:40
 slice-aggregate-put-words : tie.Need-slice-aggregate-put-words
 slice-aggregate-put-words c = search needs
 
--- src/lib.rt:217:5
 put-words-requires : tie.Need-put-words-requires
 put-words-requires c κs = search needs
 
--- src/lib.rt:213:1
 same-length : tie.Need-same-length
 same-length c = search needs
 
--- src/lib.rt:213:1
 returns : tie.Need-returns
 unfolding headed headerBytes
 returns c = rw ((c .before .before .put-words .ensures), (c .before .before .before .before .before .words-of .ensures))

@@ -6,19 +6,15 @@ use Rattle.machine.proofs.reset.Reads as reads
 use Rattle.machine.proofs.reset.Lts as lts
 use Rattle.machine.proofs.segment_of.Reads as segment-of-reads
 
--- src/lib.rt:63:9
 segment-of-requires : tie.Need-segment-of-requires
 segment-of-requires c κs = search needs
 
--- src/lib.rt:64:9
 segment-of-requires-2 : tie.Need-segment-of-requires-2
 segment-of-requires-2 c κs = search needs
 
--- src/lib.rt:65:9
 segment-of-requires-3 : tie.Need-segment-of-requires-3
 segment-of-requires-3 c κs = search needs
 
--- src/lib.rt:60:1
 returns : tie.Need-returns
 unfolding resetMachine
 returns c = rw ((c .before .before .segment-of .ensures), (c .before .segment-of2 .ensures), (c .segment-of3 .ensures))

@@ -7,29 +7,24 @@ use Rattle.opcodes.proofs.decode.Reads as reads
 use Rattle.opcodes.proofs.decode.Lts as lts
 use Rattle.opcodes.proofs.grouped_of.Reads as grouped-of-reads
 
--- src/lib.rt:88:9
 returns : tie.Need-returns
 unfolding decoded
-returns c = rw (eq-eqb _ _ ((c .if1 .taken)))
+returns c = rw (eq-eqb _ _ (c .if1 .taken))
 
--- src/lib.rt:91:9
 returns-2 : tie.Need-returns-2
 unfolding decoded
-returns-2 c = rw (ne-eqb _ _ ((c .before .if1 .left)), eq-eqb _ _ ((c .if2 .taken)))
+returns-2 c = rw (ne-eqb _ _ (c .before .if1 .left), eq-eqb _ _ (c .if2 .taken))
 
--- src/lib.rt:94:9
 returns-3 : tie.Need-returns-3
 unfolding decoded
-returns-3 c = rw (ne-eqb _ _ ((c .before .before .if1 .left)), ne-eqb _ _ ((c .before .if2 .left)), eq-eqb _ _ ((c .if3 .taken)))
+returns-3 c = rw (ne-eqb _ _ (c .before .before .if1 .left), ne-eqb _ _ (c .before .if2 .left), eq-eqb _ _ (c .if3 .taken))
 
--- src/lib.rt:96:5
 grouped-of-requires : tie.Need-grouped-of-requires
 grouped-of-requires c κs = search needs
 
--- src/lib.rt:84:1
 returns-4 : tie.Need-returns-4
 unfolding decoded
-returns-4 c = rw (ne-eqb _ _ ((c .before .before .before .if1 .left)), ne-eqb _ _ ((c .before .before .if2 .left)), ne-eqb _ _ ((c .before .if3 .left))) ((c .grouped-of .ensures))
+returns-4 c = rw (ne-eqb _ _ (c .before .before .before .if1 .left), ne-eqb _ _ (c .before .before .if2 .left), ne-eqb _ _ (c .before .if3 .left)) (c .grouped-of .ensures)
 
 pub decode-spec : {M : Type 1} → statement M
 decode-spec = tie.close (tie.spec returns returns-2 returns-3 grouped-of-requires returns-4)

@@ -9,61 +9,48 @@ use Rattle.opcodes.proofs.plain_of.Reads as plain-of-reads
 use Rattle.opcodes.proofs.rsdc_of.Reads as rsdc-of-reads
 use Rattle.opcodes.proofs.svdc_of.Reads as svdc-of-reads
 
--- src/lib.rt:73:17
 svdc-of-requires : tie.Need-svdc-of-requires
 svdc-of-requires c κs = search needs
 
--- src/lib.rt:74:17
 rsdc-of-requires : tie.Need-rsdc-of-requires
 rsdc-of-requires c κs = search needs
 
--- src/lib.rt:75:17
 plain-of-requires : tie.Need-plain-of-requires
 plain-of-requires c κs = search needs
 
--- src/lib.rt:76:17
 plain-of-requires-2 : tie.Need-plain-of-requires-2
 plain-of-requires-2 c κs = search needs
 
--- src/lib.rt:77:17
 plain-of-requires-3 : tie.Need-plain-of-requires-3
 plain-of-requires-3 c κs = search needs
 
--- src/lib.rt:78:17
 plain-of-requires-4 : tie.Need-plain-of-requires-4
 plain-of-requires-4 c κs = search needs
 
--- src/lib.rt:69:1
 returns : tie.Need-returns
 unfolding grouped
-returns c = rw ((c .before .match .keys1)) ((c .svdc-of .ensures))
+returns c = rw (c .before .match .keys1) (c .svdc-of .ensures)
 
--- src/lib.rt:69:1
 returns-2 : tie.Need-returns-2
 unfolding grouped
-returns-2 c = rw ((c .before .match .keys2)) ((c .rsdc-of .ensures))
+returns-2 c = rw (c .before .match .keys2) (c .rsdc-of .ensures)
 
--- src/lib.rt:69:1
 returns-3 : tie.Need-returns-3
 unfolding grouped
-returns-3 c = rw ((c .before .match .keys3)) ((c .plain-of .ensures))
+returns-3 c = rw (c .before .match .keys3) (c .plain-of .ensures)
 
--- src/lib.rt:69:1
 returns-4 : tie.Need-returns-4
 unfolding grouped
-returns-4 c = rw ((c .before .match .keys4)) ((c .plain-of2 .ensures))
+returns-4 c = rw (c .before .match .keys4) (c .plain-of2 .ensures)
 
--- src/lib.rt:69:1
 returns-5 : tie.Need-returns-5
 unfolding grouped
-returns-5 c = rw ((c .before .match .keys5)) ((c .plain-of3 .ensures))
+returns-5 c = rw (c .before .match .keys5) (c .plain-of3 .ensures)
 
--- src/lib.rt:69:1
 returns-6 : tie.Need-returns-6
 unfolding grouped
-returns-6 c = rw ((c .before .match .keys6)) ((c .plain-of4 .ensures))
+returns-6 c = rw (c .before .match .keys6) (c .plain-of4 .ensures)
 
--- src/lib.rt:69:1
 returns-7 : tie.Need-returns-7
 unfolding grouped
 returns-7 c = let r = (c .match .rest) in simp (ne-eqb _ _ (r .1), ne-eqb _ _ (r .0 .1), ne-eqb _ _ (r .0 .0 .1), ne-eqb _ _ (r .0 .0 .0 .1), ne-eqb _ _ (r .0 .0 .0 .0 .1), ne-eqb _ _ (r .0 .0 .0 .0 .0 .1))

@@ -4,13 +4,11 @@ use Rattle.opcodes.proofs.plain_of.Tie as tie
 use Rattle.opcodes.proofs.plain_of.Reads as reads
 use Rattle.opcodes.proofs.plain_of.Lts as lts
 
--- src/lib.rt:62:1
 returns : tie.Need-returns
-returns c = rw (eq-eqb _ _ ((c .if1 .taken)))
+returns c = rw (eq-eqb _ _ (c .if1 .taken))
 
--- src/lib.rt:62:1
 returns-2 : tie.Need-returns-2
-returns-2 c = rw (ne-eqb _ _ ((c .if1 .left)))
+returns-2 c = rw (ne-eqb _ _ (c .if1 .left))
 
 pub plain-of-spec : {M : Type 1} → statement M
 plain-of-spec = tie.close (tie.spec returns returns-2)

@@ -6,21 +6,17 @@ use Rattle.opcodes.proofs.rsdc_of.Reads as reads
 use Rattle.opcodes.proofs.rsdc_of.Lts as lts
 use Rattle.opcodes.proofs.data_segment.Reads as data-segment-reads
 
--- src/lib.rt:53:9
 returns : tie.Need-returns
-returns c = rw (eq-eqb _ _ ((c .if1 .taken)))
+returns c = rw (eq-eqb _ _ (c .if1 .taken))
 
--- src/lib.rt:56:35
 data-segment-requires : tie.Need-data-segment-requires
 data-segment-requires c κs = search needs
 
--- src/lib.rt:56:9
 returns-2 : tie.Need-returns-2
-returns-2 c = rw (ne-eqb _ _ ((c .before .before .if1 .left)), lt-ltb _ _ ((c .before .if2 .taken)), (c .data-segment .ensures))
+returns-2 c = rw (ne-eqb _ _ (c .before .before .if1 .left), lt-ltb _ _ (c .before .if2 .taken), (c .data-segment .ensures))
 
--- src/lib.rt:49:1
 returns-3 : tie.Need-returns-3
-returns-3 c = rw (ne-eqb _ _ ((c .before .if1 .left)), le-ltb _ _ ((c .if2 .left)))
+returns-3 c = rw (ne-eqb _ _ (c .before .if1 .left), le-ltb _ _ (c .if2 .left))
 
 pub rsdc-of-spec : {M : Type 1} → statement M
 rsdc-of-spec = tie.close (tie.spec returns data-segment-requires returns-2 returns-3)

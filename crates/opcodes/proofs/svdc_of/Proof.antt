@@ -6,17 +6,14 @@ use Rattle.opcodes.proofs.svdc_of.Reads as reads
 use Rattle.opcodes.proofs.svdc_of.Lts as lts
 use Rattle.opcodes.proofs.data_segment.Reads as data-segment-reads
 
--- src/lib.rt:43:32
 data-segment-requires : tie.Need-data-segment-requires
 data-segment-requires c κs = search needs
 
--- src/lib.rt:43:9
 returns : tie.Need-returns
-returns c = rw (lt-ltb _ _ ((c .before .if1 .taken)), (c .data-segment .ensures))
+returns c = rw (lt-ltb _ _ (c .before .if1 .taken), (c .data-segment .ensures))
 
--- src/lib.rt:39:1
 returns-2 : tie.Need-returns-2
-returns-2 c = rw (le-ltb _ _ ((c .if1 .left)))
+returns-2 c = rw (le-ltb _ _ (c .if1 .left))
 
 pub svdc-of-spec : {M : Type 1} → statement M
 svdc-of-spec = tie.close (tie.spec data-segment-requires returns returns-2)

@@ -8,11 +8,9 @@ use Rattle.region.proofs.is_aligned.Tie as tie
 use Rattle.region.proofs.is_aligned.Reads as reads
 use Rattle.region.proofs.is_aligned.Lts as lts
 
--- src/lib.rt:43:5
 add-result : tie.Need-add-result
 add-result c = search needs
 
--- src/lib.rt:39:1
 returns : tie.Need-returns
 returns c = let n = c .args .code in
     rw (size-power n (omega arith) (omega arith)) (zeros (11 + n) 32 (c .args .base) (omega arith))

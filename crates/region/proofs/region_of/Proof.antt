@@ -6,31 +6,24 @@ use Rattle.region.proofs.region_of.Tie as tie
 use Rattle.region.proofs.region_of.Reads as reads
 use Rattle.region.proofs.region_of.Lts as lts
 
--- src/lib.rt:19:15
 mul-t5 : tie.Need-mul-t5
 mul-t5 c = search needs
 
--- src/lib.rt:19:42
 mul-t7 : tie.Need-mul-t7
 mul-t7 c = search needs
 
--- src/lib.rt:19:15
 add-t8 : tie.Need-add-t8
 add-t8 c = search needs
 
--- src/lib.rt:19:69
 cast-t10 : tie.Need-cast-t10
 cast-t10 c = search needs
 
--- src/lib.rt:19:68
 mul-t11 : tie.Need-mul-t11
 mul-t11 c = search needs
 
--- src/lib.rt:19:15
 add-t12 : tie.Need-add-t12
 add-t12 c = search needs
 
--- src/lib.rt:15:1
 returns : tie.Need-returns
 unfolding regionOf
 returns c = refl

@@ -9,38 +9,31 @@ use Rattle.region.proofs.size_of.Tie as tie
 use Rattle.region.proofs.size_of.Reads as reads
 use Rattle.region.proofs.size_of.Lts as lts
 
--- src/lib.rt:30:9
 returns : tie.Need-returns
 unfolding sizeOf
-returns c = (rw ((c .if1 .taken)), omega arith)
+returns c = (rw (c .if1 .taken), omega arith)
 
--- src/lib.rt:33:29
 sub-result : tie.Need-sub-result
 sub-result c = search needs
 
--- src/lib.rt:33:28
 cast-result : tie.Need-cast-result
 cast-result c = search needs
 
--- src/lib.rt:33:28
 cast-result-2 : tie.Need-cast-result-2
 cast-result-2 c = search needs
 
--- src/lib.rt:33:16
 shl-result : tie.Need-shl-result
 shl-result c = search needs
 
--- src/lib.rt:33:9
 returns-2 : tie.Need-returns-2
 returns-2 c = let n = (c .before .before .args .code) in
     let e = size-shifted n (omega arith) (omega arith) in
     (e, omega (arith, e, size-small n (omega arith) (omega arith)))
 
--- src/lib.rt:25:1
 returns-3 : tie.Need-returns-3
 unfolding sizeOf
 returns-3 c = let n = (c .before .before .args .code) in
-    (rw (ne-eqb n 0 ((c .before .if1 .left)), lt-leb n 14 (omega arith)), omega arith)
+    (rw (ne-eqb n 0 (c .before .if1 .left), lt-leb n 14 (omega arith)), omega arith)
 
 pub size-of-spec : {M : Type 1} → statement M
 size-of-spec =

@@ -5,22 +5,18 @@ use Rattle.steps.proofs.is_width.Tie as tie
 use Rattle.steps.proofs.is_width.Reads as reads
 use Rattle.steps.proofs.is_width.Lts as lts
 
--- src/lib.rt:128:1
 returns : tie.Need-returns
 unfolding isWidth
-returns c = rw ((c .match .keys1))
+returns c = rw (c .match .keys1)
 
--- src/lib.rt:128:1
 returns-2 : tie.Need-returns-2
 unfolding isWidth
-returns-2 c = rw ((c .match .keys2))
+returns-2 c = rw (c .match .keys2)
 
--- src/lib.rt:128:1
 returns-3 : tie.Need-returns-3
 unfolding isWidth
-returns-3 c = rw ((c .match .keys3))
+returns-3 c = rw (c .match .keys3)
 
--- src/lib.rt:128:1
 returns-4 : tie.Need-returns-4
 unfolding isWidth
 returns-4 c = let r = (c .match .rest) in simp (ne-eqb _ _ (r .1), ne-eqb _ _ (r .0 .1), ne-eqb _ _ (r .0 .0 .1))

@@ -10,84 +10,66 @@ use Rattle.machine.proofs.Machine.answers.Reads as answers-reads
 use Rattle.machine.proofs.Machine.enter_at_boundary.Reads as enter-at-boundary-reads
 use Rattle.machine.proofs.Machine.with_latched.Reads as with-latched-reads
 
--- src/lib.rt:277:24
 with-latched-requires : tie.Need-with-latched-requires
 with-latched-requires c κs = search needs
 
--- src/lib.rt:277:17
 answers-requires : tie.Need-answers-requires
 answers-requires c κs = search needs
 
--- src/lib.rt:277:17
 returns : tie.Need-returns
 unfolding boundary
 returns c = simp ((c .before .before .before .if1 .taken), (c .before .before .if2 .taken), (c .answers .ensures), (c .before .with-latched .ensures))
 
--- src/lib.rt:279:13
 answers-requires-2 : tie.Need-answers-requires-2
 answers-requires-2 c κs = search needs
 
--- src/lib.rt:279:13
 returns-2 : tie.Need-returns-2
 unfolding boundary
 returns-2 c = simp ((c .before .before .if1 .taken), (c .before .if2 .left), (c .answers2 .ensures))
 
--- src/lib.rt:283:12
 enables-smi-requires : tie.Need-enables-smi-requires
 enables-smi-requires c κs = search needs
 
--- src/lib.rt:285:17
 enter-at-boundary-requires : tie.Need-enter-at-boundary-requires
 enter-at-boundary-requires c κs = search needs
 
--- src/lib.rt:285:17
 same-length : tie.Need-same-length
 same-length c = search needs
 
--- src/lib.rt:285:17
 returns-3 : tie.Need-returns-3
 unfolding boundary
-returns-3 c = simp ((c .before .before .before .before .before .before .before .before .before .if1 .left), sym ((c .before .before .before .before .before .before .enables-smi .ensures)), (c .before .before .before .before .before .if3 .taken), (c .before .before .before .before .if4 .taken)) ((c .before .before .enter-at-boundary .ensures))
+returns-3 c = simp ((c .before .before .before .before .before .before .before .before .before .if1 .left), sym (c .before .before .before .before .before .before .enables-smi .ensures), (c .before .before .before .before .before .if3 .taken), (c .before .before .before .before .if4 .taken)) (c .before .before .enter-at-boundary .ensures)
 
--- src/lib.rt:288:17
 enter-at-boundary-requires-2 : tie.Need-enter-at-boundary-requires-2
 enter-at-boundary-requires-2 c κs = search needs
 
--- src/lib.rt:288:17
 same-length-2 : tie.Need-same-length-2
 same-length-2 c = search needs
 
--- src/lib.rt:288:17
 returns-4 : tie.Need-returns-4
 unfolding boundary
-returns-4 c = simp ((c .before .before .before .before .before .before .before .before .before .before .if1 .left), sym ((c .before .before .before .before .before .before .before .enables-smi .ensures)), (c .before .before .before .before .before .before .if3 .taken), (c .before .before .before .before .before .if4 .left), (c .before .before .before .before .if5 .taken)) ((c .before .before .enter-at-boundary2 .ensures))
+returns-4 c = simp ((c .before .before .before .before .before .before .before .before .before .before .if1 .left), sym (c .before .before .before .before .before .before .before .enables-smi .ensures), (c .before .before .before .before .before .before .if3 .taken), (c .before .before .before .before .before .if4 .left), (c .before .before .before .before .if5 .taken)) (c .before .before .enter-at-boundary2 .ensures)
 
--- src/lib.rt:290:13
 answers-requires-3 : tie.Need-answers-requires-3
 answers-requires-3 c κs = search needs
 
--- src/lib.rt:290:13
 returns-5 : tie.Need-returns-5
 unfolding boundary
-returns-5 c = simp ((c .before .before .before .before .before .before .before .if1 .left), sym ((c .before .before .before .before .enables-smi .ensures)), (c .before .before .before .if3 .taken), (c .before .before .if4 .left), (c .before .if5 .left), (c .answers3 .ensures))
+returns-5 c = simp ((c .before .before .before .before .before .before .before .if1 .left), sym (c .before .before .before .before .enables-smi .ensures), (c .before .before .before .if3 .taken), (c .before .before .if4 .left), (c .before .if5 .left), (c .answers3 .ensures))
 
--- src/lib.rt:293:13
 answers-requires-4 : tie.Need-answers-requires-4
 answers-requires-4 c κs = search needs
 
--- src/lib.rt:293:13
 returns-6 : tie.Need-returns-6
 unfolding boundary
-returns-6 c = simp ((c .before .before .before .before .before .before .if1 .left), sym ((c .before .before .before .enables-smi .ensures)), (c .before .before .if3 .left), (c .before .if6 .taken), (c .answers4 .ensures))
+returns-6 c = simp ((c .before .before .before .before .before .before .if1 .left), sym (c .before .before .before .enables-smi .ensures), (c .before .before .if3 .left), (c .before .if6 .taken), (c .answers4 .ensures))
 
--- src/lib.rt:295:9
 answers-requires-5 : tie.Need-answers-requires-5
 answers-requires-5 c κs = search needs
 
--- src/lib.rt:266:5
 returns-7 : tie.Need-returns-7
 unfolding boundary
-returns-7 c = simp ((c .before .before .before .before .before .before .if1 .left), sym ((c .before .before .before .enables-smi .ensures)), (c .before .before .if3 .left), (c .before .if6 .left), (c .answers5 .ensures))
+returns-7 c = simp ((c .before .before .before .before .before .before .if1 .left), sym (c .before .before .before .enables-smi .ensures), (c .before .before .if3 .left), (c .before .if6 .left), (c .answers5 .ensures))
 
 pub boundary-spec : {M : Type 1} → statement M
 boundary-spec =

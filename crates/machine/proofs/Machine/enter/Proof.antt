@@ -9,27 +9,21 @@ use Rattle.header.proofs.write.Reads as write-reads
 use Rattle.machine.proofs.Machine.answers.Reads as answers-reads
 use Rattle.machine.proofs.Machine.entered.Reads as entered-reads
 
--- src/lib.rt:224:35
 header-place-requires : tie.Need-header-place-requires
 header-place-requires c κs = search needs
 
--- src/lib.rt:224:9
 write-requires : tie.Need-write-requires
 write-requires c κs = search needs
 
--- src/lib.rt:225:9
 entered-requires : tie.Need-entered-requires
 entered-requires c κs = search needs
 
--- src/lib.rt:225:9
 answers-requires : tie.Need-answers-requires
 answers-requires c κs = search needs
 
--- src/lib.rt:219:5
 same-length : tie.Need-same-length
 same-length c = search needs
 
--- src/lib.rt:219:5
 returns : tie.Need-returns
 unfolding entry
 returns c = rw ((c .answers .ensures), (c .before .entered .ensures), (c .before .before .before .before .write .ensures), (c .before .before .before .before .before .header-place .ensures))

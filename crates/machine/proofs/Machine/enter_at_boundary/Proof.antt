@@ -7,23 +7,18 @@ use Rattle.header.proofs.trap_of.Reads as trap-of-reads
 use Rattle.machine.proofs.Machine.enter.Reads as enter-reads
 use Rattle.machine.proofs.either.Reads as either-reads
 
--- src/lib.rt:237:13
 trap-of-requires : tie.Need-trap-of-requires
 trap-of-requires c κs = search needs
 
--- src/lib.rt:240:22
 either-requires : tie.Need-either-requires
 either-requires c κs = search needs
 
--- src/lib.rt:246:9
 enter-requires : tie.Need-enter-requires
 enter-requires c κs = search needs
 
--- src/lib.rt:228:5
 same-length : tie.Need-same-length
 same-length c = search needs
 
--- src/lib.rt:228:5
 returns : tie.Need-returns
 returns c = rw ((c .before .before .enter .ensures), (c .before .before .before .before .before .trap-of .ensures), (c .before .before .before .before .either .ensures))
 

@@ -7,19 +7,15 @@ use Rattle.machine.proofs.Machine.enter_by_smint.Lts as lts
 use Rattle.header.proofs.trap_of.Reads as trap-of-reads
 use Rattle.machine.proofs.Machine.enter.Reads as enter-reads
 
--- src/lib.rt:254:13
 trap-of-requires : tie.Need-trap-of-requires
 trap-of-requires c κs = search needs
 
--- src/lib.rt:263:9
 enter-requires : tie.Need-enter-requires
 enter-requires c κs = search needs
 
--- src/lib.rt:250:5
 same-length : tie.Need-same-length
 same-length c = search needs
 
--- src/lib.rt:250:5
 returns : tie.Need-returns
 returns c = rw ((c .before .before .enter .ensures), (c .before .before .before .before .trap-of .ensures))
 

@@ -8,19 +8,15 @@ use Rattle.config.proofs.Settings.region.Reads as region-reads
 use Rattle.header.proofs.entry_registers.Reads as entry-registers-reads
 use Rattle.machine.proofs.Machine.set_registers.Reads as set-registers-reads
 
--- src/lib.rt:209:13
 region-requires : tie.Need-region-requires
 region-requires c κs = search needs
 
--- src/lib.rt:211:43
 entry-registers-requires : tie.Need-entry-registers-requires
 entry-registers-requires c κs = search needs
 
--- src/lib.rt:211:13
 set-registers-requires : tie.Need-set-registers-requires
 set-registers-requires c κs = search needs
 
--- src/lib.rt:204:5
 returns : tie.Need-returns
 unfolding enteredMachine
 returns c = rw ((c .set-registers .ensures), (c .before .entry-registers .ensures), (c .before .before .before .region .ensures))

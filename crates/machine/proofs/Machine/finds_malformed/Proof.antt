@@ -8,28 +8,23 @@ use Rattle.machine.proofs.Machine.finds_malformed.Lts as lts
 use Rattle.steps.proofs.Step.interrupts.Reads as interrupts-reads
 use Rattle.steps.proofs.Step.is_malformed.Reads as is-malformed-reads
 
--- src/lib.rt:524:12
 is-malformed-requires : tie.Need-is-malformed-requires
 is-malformed-requires c κs = search needs
 
--- src/lib.rt:525:13
 returns : tie.Need-returns
 unfolding malformedOn
-returns c = rw (sym ((c .before .is-malformed .ensures)), (c .if1 .taken))
+returns c = rw (sym (c .before .is-malformed .ensures), (c .if1 .taken))
 
--- src/lib.rt:527:26
 interrupts-requires : tie.Need-interrupts-requires
 interrupts-requires c κs = search needs
 
--- src/lib.rt:521:5
 returns-2 : tie.Need-returns-2
 unfolding malformedOn
-returns-2 c = rw (sym ((c .before .before .before .is-malformed .ensures)), (c .before .before .if1 .left), (c .before .if2 .taken)) ((c .interrupts .ensures))
+returns-2 c = rw (sym (c .before .before .before .is-malformed .ensures), (c .before .before .if1 .left), (c .before .if2 .taken)) (c .interrupts .ensures)
 
--- src/lib.rt:521:5
 returns-3 : tie.Need-returns-3
 unfolding malformedOn
-returns-3 c = rw (sym ((c .before .before .is-malformed .ensures)), (c .before .if1 .left), (c .if2 .left))
+returns-3 c = rw (sym (c .before .before .is-malformed .ensures), (c .before .if1 .left), (c .if2 .left))
 
 pub finds-malformed-spec : {M : Type 1} → statement M
 finds-malformed-spec =

@@ -8,23 +8,19 @@ use Rattle.machine.proofs.Machine.is_valid.Lts as lts
 use Rattle.machine.proofs.Machine.permits.Reads as permits-reads
 use Rattle.opcodes.proofs.Operation.is_allowed.Reads as is-allowed-reads
 
--- src/lib.rt:423:12
 permits-requires : tie.Need-permits-requires
 permits-requires c κs = search needs
 
--- src/lib.rt:424:13
 is-allowed-requires : tie.Need-is-allowed-requires
 is-allowed-requires c κs = search needs
 
--- src/lib.rt:420:5
 returns : tie.Need-returns
 unfolding valid
-returns c = simp (sym ((c .before .before .permits .ensures)), (c .before .if1 .taken)) ((c .is-allowed .ensures))
+returns c = simp (sym (c .before .before .permits .ensures), (c .before .if1 .taken)) (c .is-allowed .ensures)
 
--- src/lib.rt:420:5
 returns-2 : tie.Need-returns-2
 unfolding valid
-returns-2 c = simp (sym ((c .before .permits .ensures)), (c .if1 .left))
+returns-2 c = simp (sym (c .before .permits .ensures), (c .if1 .left))
 
 pub is-valid-spec : {M : Type 1} → statement M
 is-valid-spec = tie.close (tie.spec permits-requires is-allowed-requires returns returns-2)

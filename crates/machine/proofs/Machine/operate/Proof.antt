@@ -14,107 +14,83 @@ use Rattle.machine.proofs.Machine.restore.Reads as restore-reads
 use Rattle.machine.proofs.Machine.resume.Reads as resume-reads
 use Rattle.machine.proofs.Machine.save.Reads as save-reads
 
--- src/lib.rt:441:12
 is-valid-requires : tie.Need-is-valid-requires
 is-valid-requires c κs = search needs
 
--- src/lib.rt:443:33
 enum-known-o : tie.Need-enum-known-o
 enum-known-o c = search needs
 
--- src/lib.rt:443:42
 save-requires : tie.Need-save-requires
 save-requires c κs = search needs
 
--- src/lib.rt:444:36
 enum-known-o-2 : tie.Need-enum-known-o-2
 enum-known-o-2 c = search needs
 
--- src/lib.rt:444:45
 restore-requires : tie.Need-restore-requires
 restore-requires c κs = search needs
 
--- src/lib.rt:445:57
 enum-told : tie.Need-enum-told
 enum-told c = search needs
 
--- src/lib.rt:445:37
 enter-by-smint-requires : tie.Need-enter-by-smint-requires
 enter-by-smint-requires c κs = search needs
 
--- src/lib.rt:446:47
 enum-told-2 : tie.Need-enum-told-2
 enum-told-2 c = search needs
 
--- src/lib.rt:446:35
 resume-requires : tie.Need-resume-requires
 resume-requires c κs = search needs
 
--- src/lib.rt:447:54
 enum-told-3 : tie.Need-enum-told-3
 enum-told-3 c = search needs
 
--- src/lib.rt:447:41
 answers-requires : tie.Need-answers-requires
 answers-requires c κs = search needs
 
--- src/lib.rt:442:13
 same-length : tie.Need-same-length
 same-length c = search needs
 
--- src/lib.rt:442:13
 same-length-2 : tie.Need-same-length-2
 same-length-2 c = search needs
 
--- src/lib.rt:442:13
 returns : tie.Need-returns
 unfolding opcode operated
-returns c = rw (sym ((c .before .before .before .before .before .before .before .before .before .before .before .is-valid .ensures)), (c .before .before .before .before .before .before .before .before .before .before .if1 .taken), (c .before .before .before .before .before .before .before .before .o .given .1)) ((c .before .before .before .before .save .ensures))
+returns c = rw (sym (c .before .before .before .before .before .before .before .before .before .before .before .is-valid .ensures), (c .before .before .before .before .before .before .before .before .before .before .if1 .taken), (c .before .before .before .before .before .before .before .before .o .given .1)) (c .before .before .before .before .save .ensures)
 
--- src/lib.rt:442:13
 same-length-3 : tie.Need-same-length-3
 same-length-3 c = search needs
 
--- src/lib.rt:442:13
 same-length-4 : tie.Need-same-length-4
 same-length-4 c = search needs
 
--- src/lib.rt:442:13
 returns-2 : tie.Need-returns-2
 unfolding opcode operated
-returns-2 c = rw (sym ((c .before .before .before .before .before .before .before .is-valid .ensures)), (c .before .before .before .before .before .before .if1 .taken), (c .before .before .before .before .o2 .given .1), (c .restore .ensures))
+returns-2 c = rw (sym (c .before .before .before .before .before .before .before .is-valid .ensures), (c .before .before .before .before .before .before .if1 .taken), (c .before .before .before .before .o2 .given .1), (c .restore .ensures))
 
--- src/lib.rt:442:13
 same-length-5 : tie.Need-same-length-5
 same-length-5 c = search needs
 
--- src/lib.rt:442:13
 returns-3 : tie.Need-returns-3
 unfolding opcode operated
-returns-3 c = rw (sym ((c .before .before .before .before .before .before .before .is-valid .ensures)), (c .before .before .before .before .before .before .if1 .taken), (c .before .before .before .before .enum-told .given .1)) (ap (over (memories ((c .before .before .before .before .before .before .before .before .before .before .args .main .now)) ((c .before .before .before .before .before .before .before .before .before .before .args .management .now)))) ((c .before .before .enter-by-smint .ensures)))
+returns-3 c = rw (sym (c .before .before .before .before .before .before .before .is-valid .ensures), (c .before .before .before .before .before .before .if1 .taken), (c .before .before .before .before .enum-told .given .1)) (ap (over (memories (c .before .before .before .before .before .before .before .before .before .before .args .main .now) (c .before .before .before .before .before .before .before .before .before .before .args .management .now))) (c .before .before .enter-by-smint .ensures))
 
--- src/lib.rt:442:13
 same-length-6 : tie.Need-same-length-6
 same-length-6 c = search needs
 
--- src/lib.rt:442:13
 returns-4 : tie.Need-returns-4
 unfolding opcode operated
-returns-4 c = rw (sym ((c .before .before .before .before .before .is-valid .ensures)), (c .before .before .before .before .if1 .taken), (c .before .before .enum-told2 .given .1), (c .resume .ensures))
+returns-4 c = rw (sym (c .before .before .before .before .before .is-valid .ensures), (c .before .before .before .before .if1 .taken), (c .before .before .enum-told2 .given .1), (c .resume .ensures))
 
--- src/lib.rt:442:13
 returns-5 : tie.Need-returns-5
 unfolding opcode operated
-returns-5 c = rw (sym ((c .before .before .before .before .is-valid .ensures)), (c .before .before .before .if1 .taken), (c .before .enum-told3 .given .1), (c .answers .ensures))
+returns-5 c = rw (sym (c .before .before .before .before .is-valid .ensures), (c .before .before .before .if1 .taken), (c .before .enum-told3 .given .1), (c .answers .ensures))
 
--- src/lib.rt:450:9
 answers-requires-2 : tie.Need-answers-requires-2
 answers-requires-2 c κs = search needs
 
--- src/lib.rt:430:5
 returns-6 : tie.Need-returns-6
 unfolding opcode
-returns-6 c = rw (sym ((c .before .before .is-valid .ensures)), (c .before .if1 .left), (c .answers2 .ensures))
+returns-6 c = rw (sym (c .before .before .is-valid .ensures), (c .before .if1 .left), (c .answers2 .ensures))
 
 pub operate-spec : {M : Type 1} → statement M
 operate-spec =

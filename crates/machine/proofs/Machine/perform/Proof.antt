@@ -23,209 +23,160 @@ use Rattle.machine.proofs.reset.Reads as reset-reads
 use Rattle.machine.proofs.segment_of.Reads as segment-of-reads
 use Rattle.opcodes.proofs.decode.Reads as decode-reads
 
--- src/lib.rt:459:28
 enum-told : tie.Need-enum-told
 enum-told c = search needs
 
--- src/lib.rt:459:28
 reset-requires : tie.Need-reset-requires
 reset-requires c κs = search needs
 
--- src/lib.rt:459:28
 answers-requires : tie.Need-answers-requires
 answers-requires c κs = search needs
 
--- src/lib.rt:461:17
 enum-known-s : tie.Need-enum-known-s
 enum-known-s c = search needs
 
--- src/lib.rt:470:21
 segment-of-requires : tie.Need-segment-of-requires
 segment-of-requires c κs = search needs
 
--- src/lib.rt:471:21
 level-of-requires : tie.Need-level-of-requires
 level-of-requires c κs = search needs
 
--- src/lib.rt:481:17
 set-registers-requires : tie.Need-set-registers-requires
 set-registers-requires c κs = search needs
 
--- src/lib.rt:481:17
 answers-requires-2 : tie.Need-answers-requires-2
 answers-requires-2 c κs = search needs
 
--- src/lib.rt:483:26
 enum-known-s-2 : tie.Need-enum-known-s-2
 enum-known-s-2 c = search needs
 
--- src/lib.rt:483:46
 read-requires : tie.Need-read-requires
-read-requires c κs = not-false _ (rw ((c .before .before .before .s2 .given .1)) at ((c .before .before .before .before .before .before .before .pre)))
+read-requires c κs = not-false _ (rw (c .before .before .before .s2 .given .1) at (c .before .before .before .before .before .before .before .pre))
 
--- src/lib.rt:485:17
 enum-known-s-3 : tie.Need-enum-known-s-3
 enum-known-s-3 c = search needs
 
--- src/lib.rt:488:18
 write-requires : tie.Need-write-requires
 write-requires c κs = search needs
 
--- src/lib.rt:489:30
 enum-known-s-4 : tie.Need-enum-known-s-4
 enum-known-s-4 c = search needs
 
--- src/lib.rt:491:29
 read-requires-2 : tie.Need-read-requires-2
 read-requires-2 c κs = search needs
 
--- src/lib.rt:491:17
 ported-requires : tie.Need-ported-requires
 ported-requires c κs = search needs
 
--- src/lib.rt:493:31
 enum-known-s-5 : tie.Need-enum-known-s-5
 enum-known-s-5 c = search needs
 
--- src/lib.rt:495:29
 write-requires-2 : tie.Need-write-requires-2
 write-requires-2 c κs = search needs
 
--- src/lib.rt:495:17
 ported-requires-2 : tie.Need-ported-requires-2
 ported-requires-2 c κs = search needs
 
--- src/lib.rt:498:17
 enum-known-s-6 : tie.Need-enum-known-s-6
 enum-known-s-6 c = search needs
 
--- src/lib.rt:505:17
 decode-requires : tie.Need-decode-requires
 decode-requires c κs = search needs
 
--- src/lib.rt:502:18
 operate-requires : tie.Need-operate-requires
 operate-requires c κs = search needs
 
--- src/lib.rt:510:17
 enum-known-s-7 : tie.Need-enum-known-s-7
 enum-known-s-7 c = search needs
 
--- src/lib.rt:513:18
 boundary-requires : tie.Need-boundary-requires
 boundary-requires c κs = search needs
 
--- src/lib.rt:514:51
 enum-told-2 : tie.Need-enum-told-2
 enum-told-2 c = search needs
 
--- src/lib.rt:514:38
 answers-requires-3 : tie.Need-answers-requires-3
 answers-requires-3 c κs = search needs
 
--- src/lib.rt:515:27
 enum-told-3 : tie.Need-enum-told-3
 enum-told-3 c = search needs
 
--- src/lib.rt:515:27
 with-halted-requires : tie.Need-with-halted-requires
 with-halted-requires c κs = search needs
 
--- src/lib.rt:515:27
 answers-requires-4 : tie.Need-answers-requires-4
 answers-requires-4 c κs = search needs
 
--- src/lib.rt:516:27
 enum-told-4 : tie.Need-enum-told-4
 enum-told-4 c = search needs
 
--- src/lib.rt:516:27
 with-halted-requires-2 : tie.Need-with-halted-requires-2
 with-halted-requires-2 c κs = search needs
 
--- src/lib.rt:516:27
 answers-requires-5 : tie.Need-answers-requires-5
 answers-requires-5 c κs = search needs
 
--- src/lib.rt:453:5
 returns : tie.Need-returns
 unfolding performed
 returns c = rw ((c .before .before .enum-told .given .1), (c .answers .ensures), (c .before .reset .ensures))
 
--- src/lib.rt:453:5
 returns-2 : tie.Need-returns-2
 unfolding performed
 returns-2 c = rw ((c .before .before .before .before .before .s .given .1), (c .answers2 .ensures), (c .before .set-registers .ensures), (c .before .before .level-of .ensures), (c .before .before .before .segment-of .ensures))
 
--- src/lib.rt:453:5
 same-length : tie.Need-same-length
 same-length c = search needs
 
--- src/lib.rt:453:5
 same-length-2 : tie.Need-same-length-2
 same-length-2 c = search needs
 
--- src/lib.rt:453:5
 returns-3 : tie.Need-returns-3
 unfolding performed
 returns-3 c = rw ((c .before .before .before .before .s2 .given .1), (c .read .ensures))
 
--- src/lib.rt:453:5
 same-length-3 : tie.Need-same-length-3
 same-length-3 c = search needs
 
--- src/lib.rt:453:5
 same-length-4 : tie.Need-same-length-4
 same-length-4 c = search needs
 
--- src/lib.rt:453:5
 returns-4 : tie.Need-returns-4
 unfolding performed
-returns-4 c = rw ((c .before .before .before .before .before .before .before .before .s3 .given .1)) ((c .before .before .before .before .write .ensures))
+returns-4 c = rw (c .before .before .before .before .before .before .before .before .s3 .given .1) (c .before .before .before .before .write .ensures)
 
--- src/lib.rt:453:5
 returns-5 : tie.Need-returns-5
 unfolding performed
 returns-5 c = rw ((c .before .before .before .before .s4 .given .1), (c .ported .ensures), (c .before .read2 .ensures))
 
--- src/lib.rt:453:5
 returns-6 : tie.Need-returns-6
 unfolding performed
 returns-6 c = rw ((c .before .before .before .before .s5 .given .1), (c .ported2 .ensures), (c .before .write2 .ensures))
 
--- src/lib.rt:453:5
 same-length-5 : tie.Need-same-length-5
 same-length-5 c = search needs
 
--- src/lib.rt:453:5
 same-length-6 : tie.Need-same-length-6
 same-length-6 c = search needs
 
--- src/lib.rt:453:5
 returns-7 : tie.Need-returns-7
 unfolding performed
-returns-7 c = rw ((c .before .before .before .before .before .before .before .before .before .s6 .given .1)) ((c .before .before .before .before .operate .ensures) ∙ rw ((c .before .before .before .before .before .decode .ensures)))
+returns-7 c = rw (c .before .before .before .before .before .before .before .before .before .s6 .given .1) ((c .before .before .before .before .operate .ensures) ∙ rw (c .before .before .before .before .before .decode .ensures))
 
--- src/lib.rt:453:5
 same-length-7 : tie.Need-same-length-7
 same-length-7 c = search needs
 
--- src/lib.rt:453:5
 returns-8 : tie.Need-returns-8
 unfolding performed
-returns-8 c = rw ((c .before .before .before .before .before .s7 .given .1)) (ap (over (memories ((c .before .before .before .before .before .before .before .before .before .args .main .now)) ((c .before .before .before .before .before .before .before .before .before .args .management .now)))) ((c .before .before .boundary .ensures)))
+returns-8 c = rw (c .before .before .before .before .before .s7 .given .1) (ap (over (memories (c .before .before .before .before .before .before .before .before .before .args .main .now) (c .before .before .before .before .before .before .before .before .before .args .management .now))) (c .before .before .boundary .ensures))
 
--- src/lib.rt:453:5
 returns-9 : tie.Need-returns-9
 unfolding performed
 returns-9 c = rw ((c .before .enum-told2 .given .1), (c .answers3 .ensures))
 
--- src/lib.rt:453:5
 returns-10 : tie.Need-returns-10
 unfolding performed
 returns-10 c = rw ((c .before .before .enum-told3 .given .1), (c .answers4 .ensures), (c .before .with-halted .ensures))
 
--- src/lib.rt:453:5
 returns-11 : tie.Need-returns-11
 unfolding performed
 returns-11 c = rw ((c .before .before .enum-told4 .given .1), (c .answers5 .ensures), (c .before .with-halted2 .ensures))

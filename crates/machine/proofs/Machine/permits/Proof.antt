@@ -12,50 +12,40 @@ use Rattle.config.proofs.Settings.use_smi.Reads as use-smi-reads
 use Rattle.header.proofs.level_number.Reads as level-number-reads
 use Rattle.region.proofs.Region.is_usable.Reads as is-usable-reads
 
--- src/lib.rt:317:12
 use-smi-requires : tie.Need-use-smi-requires
 use-smi-requires c κs = search needs
 
--- src/lib.rt:318:17
 region-requires : tie.Need-region-requires
 region-requires c κs = search needs
 
--- src/lib.rt:319:16
 is-usable-requires : tie.Need-is-usable-requires
 is-usable-requires c κs = search needs
 
--- src/lib.rt:322:20
 level-number-requires : tie.Need-level-number-requires
 level-number-requires c κs = search needs
 
--- src/lib.rt:324:25
 returns : tie.Need-returns
 unfolding permitted
-returns c = simp (sym ((c .before .before .before .before .before .before .before .before .use-smi .ensures)), (c .before .before .before .before .before .before .before .if1 .taken), sym ((c .before .before .before .before .before .before .region .ensures)), sym ((c .before .before .before .before .before .is-usable .ensures)), (c .before .before .before .before .if2 .taken), sym ((c .before .before .level-number .ensures .0)), eq-eqb _ _ ((c .before .if3 .taken)), (c .if4 .taken))
+returns c = simp (sym (c .before .before .before .before .before .before .before .before .use-smi .ensures), (c .before .before .before .before .before .before .before .if1 .taken), sym (c .before .before .before .before .before .before .region .ensures), sym (c .before .before .before .before .before .is-usable .ensures), (c .before .before .before .before .if2 .taken), sym (c .before .before .level-number .ensures .0), eq-eqb _ _ (c .before .if3 .taken), (c .if4 .taken))
 
--- src/lib.rt:326:21
 smac-requires : tie.Need-smac-requires
 smac-requires c κs = search needs
 
--- src/lib.rt:326:21
 returns-2 : tie.Need-returns-2
 unfolding permitted
-returns-2 c = simp (sym ((c .before .before .before .before .before .before .before .before .before .use-smi .ensures)), (c .before .before .before .before .before .before .before .before .if1 .taken), sym ((c .before .before .before .before .before .before .before .region .ensures)), sym ((c .before .before .before .before .before .before .is-usable .ensures)), (c .before .before .before .before .before .if2 .taken), sym ((c .before .before .before .level-number .ensures .0)), eq-eqb _ _ ((c .before .before .if3 .taken)), (c .before .if4 .left)) ((c .smac .ensures))
+returns-2 c = simp (sym (c .before .before .before .before .before .before .before .before .before .use-smi .ensures), (c .before .before .before .before .before .before .before .before .if1 .taken), sym (c .before .before .before .before .before .before .before .region .ensures), sym (c .before .before .before .before .before .before .is-usable .ensures), (c .before .before .before .before .before .if2 .taken), sym (c .before .before .before .level-number .ensures .0), eq-eqb _ _ (c .before .before .if3 .taken), (c .before .if4 .left)) (c .smac .ensures)
 
--- src/lib.rt:328:17
 returns-3 : tie.Need-returns-3
 unfolding permitted
-returns-3 c = simp (sym ((c .before .before .before .before .before .before .before .use-smi .ensures)), (c .before .before .before .before .before .before .if1 .taken), sym ((c .before .before .before .before .before .region .ensures)), sym ((c .before .before .before .before .is-usable .ensures)), (c .before .before .before .if2 .taken), sym ((c .before .level-number .ensures .0)), ne-eqb _ _ ((c .if3 .left)))
+returns-3 c = simp (sym (c .before .before .before .before .before .before .before .use-smi .ensures), (c .before .before .before .before .before .before .if1 .taken), sym (c .before .before .before .before .before .region .ensures), sym (c .before .before .before .before .is-usable .ensures), (c .before .before .before .if2 .taken), sym (c .before .level-number .ensures .0), ne-eqb _ _ (c .if3 .left))
 
--- src/lib.rt:330:13
 returns-4 : tie.Need-returns-4
 unfolding permitted
-returns-4 c = simp (sym ((c .before .before .before .before .use-smi .ensures)), (c .before .before .before .if1 .taken), sym ((c .before .before .region .ensures)), sym ((c .before .is-usable .ensures)), (c .if2 .left))
+returns-4 c = simp (sym (c .before .before .before .before .use-smi .ensures), (c .before .before .before .if1 .taken), sym (c .before .before .region .ensures), sym (c .before .is-usable .ensures), (c .if2 .left))
 
--- src/lib.rt:312:5
 returns-5 : tie.Need-returns-5
 unfolding permitted
-returns-5 c = simp (sym ((c .before .use-smi .ensures)), (c .if1 .left))
+returns-5 c = simp (sym (c .before .use-smi .ensures), (c .if1 .left))
 
 pub permits-spec : {M : Type 1} → statement M
 permits-spec =

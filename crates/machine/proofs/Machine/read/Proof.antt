@@ -9,37 +9,29 @@ use Rattle.machine.proofs.Machine.answers.Reads as answers-reads
 use Rattle.machine.proofs.Machine.window.Reads as window-reads
 use Rattle.memory.proofs.read.Reads as read-reads
 
--- src/lib.rt:347:28
 window-requires : tie.Need-window-requires
 window-requires c κs = search needs
 
--- src/lib.rt:347:15
 read-requires : tie.Need-read-requires
 read-requires c κs = search needs
 
--- src/lib.rt:348:27
 enum-known-v : tie.Need-enum-known-v
 enum-known-v c = search needs
 
--- src/lib.rt:348:33
 answers-requires : tie.Need-answers-requires
 answers-requires c κs = search needs
 
--- src/lib.rt:349:44
 enum-told : tie.Need-enum-told
 enum-told c = search needs
 
--- src/lib.rt:349:31
 answers-requires-2 : tie.Need-answers-requires-2
 answers-requires-2 c κs = search needs
 
--- src/lib.rt:343:5
 returns : tie.Need-returns
-returns c = (c .answers .ensures) ∙ ap (readAnswer _) (sym ((c .before .before .v .given .1))) ∙ read-found _ _ _ ((c .before .before .before .before .before .window .ensures)) _ _ _ ((c .before .before .before .before .before .before .before .before .pre)) ((c .before .before .before .before .read .ensures))
+returns c = (c .answers .ensures) ∙ ap (readAnswer _) (sym (c .before .before .v .given .1)) ∙ read-found _ _ _ (c .before .before .before .before .before .window .ensures) _ _ _ (c .before .before .before .before .before .before .before .before .pre) (c .before .before .before .before .read .ensures)
 
--- src/lib.rt:343:5
 returns-2 : tie.Need-returns-2
-returns-2 c = (c .answers2 .ensures) ∙ ap (readAnswer _) (sym ((c .before .enum-told .given .1))) ∙ read-found _ _ _ ((c .before .before .before .before .window .ensures)) _ _ _ ((c .before .before .before .before .before .before .before .pre)) ((c .before .before .before .read .ensures))
+returns-2 c = (c .answers2 .ensures) ∙ ap (readAnswer _) (sym (c .before .enum-told .given .1)) ∙ read-found _ _ _ (c .before .before .before .before .window .ensures) _ _ _ (c .before .before .before .before .before .before .before .pre) (c .before .before .before .read .ensures)
 
 pub read-spec : {M : Type 1} → statement M
 read-spec =

@@ -11,45 +11,35 @@ use Rattle.machine.proofs.Machine.set_segment.Reads as set-segment-read
 use Rattle.machine.proofs.Machine.window.Reads as window-reads
 use Rattle.memory.proofs.read_segment.Reads as read-segment-reads
 
--- src/lib.rt:400:36
 window-requires : tie.Need-window-requires
 window-requires c κs = search needs
 
--- src/lib.rt:400:15
 read-segment-requires : tie.Need-read-segment-requires
 read-segment-requires c κs = search needs
 
--- src/lib.rt:401:28
 enum-known-s : tie.Need-enum-known-s
 enum-known-s c = search needs
 
--- src/lib.rt:401:34
 set-segment-requires : tie.Need-set-segment-requires
 set-segment-requires c κs = search needs
 
--- src/lib.rt:401:34
 advance-requires : tie.Need-advance-requires
 advance-requires c κs = search needs
 
--- src/lib.rt:401:34
 answers-requires : tie.Need-answers-requires
 answers-requires c κs = search needs
 
--- src/lib.rt:404:42
 enum-told : tie.Need-enum-told
 enum-told c = search needs
 
--- src/lib.rt:404:29
 answers-requires-2 : tie.Need-answers-requires-2
 answers-requires-2 c κs = search needs
 
--- src/lib.rt:390:5
 returns : tie.Need-returns
-returns c = rw ((c .answers .ensures), (c .before .advance .ensures), (c .before .before .set-segment .ensures)) (ap (restoreAnswer ((c .before .before .before .before .before .before .before .before .before .before .args .self)) ((c .before .before .before .before .before .before .before .before .before .before .args .name)) ((c .before .before .before .before .before .before .before .before .before .before .args .next))) (sym ((c .before .before .before .before .s .given .1))) ∙ restore-found _ _ _ ((c .before .before .before .before .before .before .before .window .ensures)) _ _ _ _ ((c .before .before .before .before .before .before .read-segment .ensures)))
+returns c = rw ((c .answers .ensures), (c .before .advance .ensures), (c .before .before .set-segment .ensures)) (ap (restoreAnswer (c .before .before .before .before .before .before .before .before .before .before .args .self) (c .before .before .before .before .before .before .before .before .before .before .args .name) (c .before .before .before .before .before .before .before .before .before .before .args .next)) (sym (c .before .before .before .before .s .given .1)) ∙ restore-found _ _ _ (c .before .before .before .before .before .before .before .window .ensures) _ _ _ _ (c .before .before .before .before .before .before .read-segment .ensures))
 
--- src/lib.rt:390:5
 returns-2 : tie.Need-returns-2
-returns-2 c = (c .answers2 .ensures) ∙ ap (restoreAnswer ((c .before .before .before .before .before .before .before .args .self)) ((c .before .before .before .before .before .before .before .args .name)) ((c .before .before .before .before .before .before .before .args .next))) (sym ((c .before .enum-told .given .1))) ∙ restore-found _ _ _ ((c .before .before .before .before .window .ensures)) _ _ _ _ ((c .before .before .before .read-segment .ensures))
+returns-2 c = (c .answers2 .ensures) ∙ ap (restoreAnswer (c .before .before .before .before .before .before .before .args .self) (c .before .before .before .before .before .before .before .args .name) (c .before .before .before .before .before .before .before .args .next)) (sym (c .before .enum-told .given .1)) ∙ restore-found _ _ _ (c .before .before .before .before .window .ensures) _ _ _ _ (c .before .before .before .read-segment .ensures)
 
 pub restore-spec : {M : Type 1} → statement M
 restore-spec =

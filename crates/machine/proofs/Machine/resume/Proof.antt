@@ -9,23 +9,18 @@ use Rattle.header.proofs.read.Reads as read-reads
 use Rattle.machine.proofs.Machine.answers.Reads as answers-reads
 use Rattle.machine.proofs.Machine.set_registers.Reads as set-registers-reads
 
--- src/lib.rt:304:50
 header-place-requires : tie.Need-header-place-requires
 header-place-requires c κs = search needs
 
--- src/lib.rt:304:13
 read-requires : tie.Need-read-requires
 read-requires c κs = search needs
 
--- src/lib.rt:305:13
 set-registers-requires : tie.Need-set-registers-requires
 set-registers-requires c κs = search needs
 
--- src/lib.rt:308:9
 answers-requires : tie.Need-answers-requires
 answers-requires c κs = search needs
 
--- src/lib.rt:299:5
 returns : tie.Need-returns
 unfolding resume
 returns c = rw ((c .answers .ensures), (c .before .set-registers .ensures), (c .before .before .read .ensures), (c .before .before .before .header-place .ensures))

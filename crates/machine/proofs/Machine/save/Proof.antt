@@ -12,53 +12,41 @@ use Rattle.machine.proofs.Machine.segment.Reads as segment-reads
 use Rattle.machine.proofs.Machine.window.Reads as window-reads
 use Rattle.memory.proofs.write_segment.Reads as write-segment-reads
 
--- src/lib.rt:382:13
 segment-requires : tie.Need-segment-requires
 segment-requires c κs = search needs
 
--- src/lib.rt:383:34
 window-requires : tie.Need-window-requires
 window-requires c κs = search needs
 
--- src/lib.rt:383:12
 write-segment-requires : tie.Need-write-segment-requires
 write-segment-requires c κs = search needs
 
--- src/lib.rt:384:20
 advance-requires : tie.Need-advance-requires
 advance-requires c κs = search needs
 
--- src/lib.rt:384:13
 answers-requires : tie.Need-answers-requires
 answers-requires c κs = search needs
 
--- src/lib.rt:384:13
 same-length : tie.Need-same-length
 same-length c = search needs
 
--- src/lib.rt:384:13
 same-length-2 : tie.Need-same-length-2
 same-length-2 c = search needs
 
--- src/lib.rt:384:13
 returns : tie.Need-returns
-returns c = rw ((c .answers .ensures), (c .before .advance .ensures)) (save-made ((c .before .before .before .before .before .before .before .before .before .before .before .before .before .before .args .self)) _ _ ((c .before .before .before .before .before .before .before .before .before .before .window .ensures)) _ _ true ((c .before .before .before .before .before .before .before .before .before .before .before .before .before .before .args .name)) ((c .before .before .before .before .before .before .before .before .before .before .before .before .before .before .args .next)) (sym ((c .before .before .if1 .taken)) ∙ (c .before .before .before .before .before .before .before .write-segment .ensures .0)) (rw (sym ((c .before .before .before .before .before .before .before .before .before .before .before .segment .ensures))) ((c .before .before .before .before .before .before .before .write-segment .ensures .1))))
+returns c = rw ((c .answers .ensures), (c .before .advance .ensures)) (save-made (c .before .before .before .before .before .before .before .before .before .before .before .before .before .before .args .self) _ _ (c .before .before .before .before .before .before .before .before .before .before .window .ensures) _ _ true (c .before .before .before .before .before .before .before .before .before .before .before .before .before .before .args .name) (c .before .before .before .before .before .before .before .before .before .before .before .before .before .before .args .next) (sym (c .before .before .if1 .taken) ∙ (c .before .before .before .before .before .before .before .write-segment .ensures .0)) (rw (sym (c .before .before .before .before .before .before .before .before .before .before .before .segment .ensures)) (c .before .before .before .before .before .before .before .write-segment .ensures .1)))
 
--- src/lib.rt:386:9
 answers-requires-2 : tie.Need-answers-requires-2
 answers-requires-2 c κs = search needs
 
--- src/lib.rt:371:5
 same-length-3 : tie.Need-same-length-3
 same-length-3 c = search needs
 
--- src/lib.rt:371:5
 same-length-4 : tie.Need-same-length-4
 same-length-4 c = search needs
 
--- src/lib.rt:371:5
 returns-2 : tie.Need-returns-2
-returns-2 c = rw ((c .answers2 .ensures)) (save-made ((c .before .before .before .before .before .before .before .before .before .before .before .before .before .args .self)) _ _ ((c .before .before .before .before .before .before .before .before .before .window .ensures)) _ _ false ((c .before .before .before .before .before .before .before .before .before .before .before .before .before .args .name)) ((c .before .before .before .before .before .before .before .before .before .before .before .before .before .args .next)) (sym ((c .before .if1 .left)) ∙ (c .before .before .before .before .before .before .write-segment .ensures .0)) (rw (sym ((c .before .before .before .before .before .before .before .before .before .before .segment .ensures))) ((c .before .before .before .before .before .before .write-segment .ensures .1))))
+returns-2 c = rw (c .answers2 .ensures) (save-made (c .before .before .before .before .before .before .before .before .before .before .before .before .before .args .self) _ _ (c .before .before .before .before .before .before .before .before .before .window .ensures) _ _ false (c .before .before .before .before .before .before .before .before .before .before .before .before .before .args .name) (c .before .before .before .before .before .before .before .before .before .before .before .before .before .args .next) (sym (c .before .if1 .left) ∙ (c .before .before .before .before .before .before .write-segment .ensures .0)) (rw (sym (c .before .before .before .before .before .before .before .before .before .before .segment .ensures)) (c .before .before .before .before .before .before .write-segment .ensures .1)))
 
 pub save-spec : {M : Type 1} → statement M
 save-spec =

@@ -13,83 +13,65 @@ use Rattle.machine.proofs.Machine.finds_malformed.Reads as finds-malfor
 use Rattle.machine.proofs.Machine.perform.Reads as perform-reads
 use Rattle.steps.proofs.Step.is_program.Reads as is-program-reads
 
--- src/lib.rt:536:13
 answers-requires : tie.Need-answers-requires
 answers-requires c κs = search needs
 
--- src/lib.rt:536:13
 returns : tie.Need-returns
 unfolding stepped wrongSizes
-returns c = rw ((c .answers .ensures), lt-leb _ _ ((c .before .if1 .taken)))
+returns c = rw ((c .answers .ensures), lt-leb _ _ (c .before .if1 .taken))
 
--- src/lib.rt:539:13
 answers-requires-2 : tie.Need-answers-requires-2
 answers-requires-2 c κs = search needs
 
--- src/lib.rt:539:13
 returns-2 : tie.Need-returns-2
 unfolding stepped wrongSizes
-returns-2 c = rw ((c .answers2 .ensures), le-leb _ _ ((c .before .before .if1 .left)), ne-eqb _ _ ((c .before .if2 .taken)))
+returns-2 c = rw ((c .answers2 .ensures), le-leb _ _ (c .before .before .if1 .left), ne-eqb _ _ (c .before .if2 .taken))
 
--- src/lib.rt:541:12
 finds-malformed-requires : tie.Need-finds-malformed-requires
 finds-malformed-requires c κs = search needs
 
--- src/lib.rt:542:13
 answers-requires-3 : tie.Need-answers-requires-3
 answers-requires-3 c κs = search needs
 
--- src/lib.rt:542:13
 returns-3 : tie.Need-returns-3
 unfolding stepped wrongSizes
-returns-3 c = rw ((c .answers3 .ensures), le-leb _ _ ((c .before .before .before .before .if1 .left)), eq-eqb _ _ ((c .before .before .before .if2 .left)), sym ((c .before .before .finds-malformed .ensures)), (c .before .if3 .taken))
+returns-3 c = rw ((c .answers3 .ensures), le-leb _ _ (c .before .before .before .before .if1 .left), eq-eqb _ _ (c .before .before .before .if2 .left), sym (c .before .before .finds-malformed .ensures), (c .before .if3 .taken))
 
--- src/lib.rt:545:16
 is-program-requires : tie.Need-is-program-requires
 is-program-requires c κs = search needs
 
--- src/lib.rt:546:17
 answers-requires-4 : tie.Need-answers-requires-4
 answers-requires-4 c κs = search needs
 
--- src/lib.rt:546:17
 returns-4 : tie.Need-returns-4
 unfolding stepped wrongSizes programWhileHalted
-returns-4 c = rw ((c .answers4 .ensures), le-leb _ _ ((c .before .before .before .before .before .before .before .if1 .left)), eq-eqb _ _ ((c .before .before .before .before .before .before .if2 .left)), sym ((c .before .before .before .before .before .finds-malformed .ensures)), (c .before .before .before .before .if3 .left), (c .before .before .before .if4 .taken), sym ((c .before .before .is-program .ensures)), (c .before .if5 .taken))
+returns-4 c = rw ((c .answers4 .ensures), le-leb _ _ (c .before .before .before .before .before .before .before .if1 .left), eq-eqb _ _ (c .before .before .before .before .before .before .if2 .left), sym (c .before .before .before .before .before .finds-malformed .ensures), (c .before .before .before .before .if3 .left), (c .before .before .before .if4 .taken), sym (c .before .before .is-program .ensures), (c .before .if5 .taken))
 
--- src/lib.rt:548:13
 perform-requires : tie.Need-perform-requires
-perform-requires c κs = well-formed _ _ _ ((c .before .before .before .before .before .before .finds-malformed .ensures)) ((c .before .before .before .before .before .if3 .left))
+perform-requires c κs = well-formed _ _ _ (c .before .before .before .before .before .before .finds-malformed .ensures) (c .before .before .before .before .before .if3 .left)
 
--- src/lib.rt:548:13
 same-length : tie.Need-same-length
 same-length c = search needs
 
--- src/lib.rt:548:13
 same-length-2 : tie.Need-same-length-2
 same-length-2 c = search needs
 
--- src/lib.rt:548:13
 returns-5 : tie.Need-returns-5
 unfolding programWhileHalted
-returns-5 c = runs _ _ _ _ _ ((c .before .before .before .before .before .before .before .before .before .before .before .before .before .if1 .left)) ((c .before .before .before .before .before .before .before .before .before .before .before .before .if2 .left)) ((c .before .before .before .before .before .before .before .before .before .before .before .finds-malformed .ensures)) ((c .before .before .before .before .before .before .before .before .before .before .if3 .left)) (rw ((c .before .before .before .before .before .before .before .before .before .if4 .taken), sym ((c .before .before .before .before .before .before .before .before .is-program .ensures))) ((c .before .before .before .before .before .before .before .if5 .left))) ((c .before .before .before .before .perform .ensures))
+returns-5 c = runs _ _ _ _ _ (c .before .before .before .before .before .before .before .before .before .before .before .before .before .if1 .left) (c .before .before .before .before .before .before .before .before .before .before .before .before .if2 .left) (c .before .before .before .before .before .before .before .before .before .before .before .finds-malformed .ensures) (c .before .before .before .before .before .before .before .before .before .before .if3 .left) (rw ((c .before .before .before .before .before .before .before .before .before .if4 .taken), sym (c .before .before .before .before .before .before .before .before .is-program .ensures)) (c .before .before .before .before .before .before .before .if5 .left)) (c .before .before .before .before .perform .ensures)
 
--- src/lib.rt:550:9
 perform-requires-2 : tie.Need-perform-requires-2
-perform-requires-2 c κs = well-formed _ _ _ ((c .before .before .before .before .finds-malformed .ensures)) ((c .before .before .before .if3 .left))
+perform-requires-2 c κs = well-formed _ _ _ (c .before .before .before .before .finds-malformed .ensures) (c .before .before .before .if3 .left)
 
--- src/lib.rt:531:5
 same-length-3 : tie.Need-same-length-3
 same-length-3 c = search needs
 
--- src/lib.rt:531:5
 same-length-4 : tie.Need-same-length-4
 same-length-4 c = search needs
 
--- src/lib.rt:531:5
 returns-6 : tie.Need-returns-6
 unfolding programWhileHalted
-returns-6 c = runs _ _ _ _ _ ((c .before .before .before .before .before .before .before .before .before .before .before .if1 .left)) ((c .before .before .before .before .before .before .before .before .before .before .if2 .left)) ((c .before .before .before .before .before .before .before .before .before .finds-malformed .ensures)) ((c .before .before .before .before .before .before .before .before .if3 .left)) (rw ((c .before .before .before .before .before .before .before .if4 .left))) ((c .before .before .before .before .perform2 .ensures))
+returns-6 c = runs _ _ _ _ _ (c .before .before .before .before .before .before .before .before .before .before .before .if1 .left) (c .before .before .before .before .before .before .before .before .before .before .if2 .left) (c .before .before .before .before .before .before .before .before .before .finds-malformed .ensures) (c .before .before .before .before .before .before .before .before .if3 .left) (rw (c .before .before .before .before .before .before .before .if4 .left)) (c .before .before .before .before .perform2 .ensures)
 
 pub step-spec : {M : Type 1} → statement M
 step-spec =

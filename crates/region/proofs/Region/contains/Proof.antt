@@ -9,36 +9,29 @@ use Rattle.region.proofs.Region.contains.Lts as lts
 use Rattle.region.proofs.Region.is_usable.Reads as is-usable-reads
 use Rattle.region.proofs.size_of.Reads as size-of-reads
 
--- src/lib.rt:64:12
 is-usable-requires : tie.Need-is-usable-requires
 is-usable-requires c κs = search needs
 
--- src/lib.rt:65:24
 cast-base : tie.Need-cast-base
 cast-base c = search needs
 
--- src/lib.rt:67:41
 size-of-requires : tie.Need-size-of-requires
 size-of-requires c κs = search needs
 
--- src/lib.rt:67:34
 add-result : tie.Need-add-result
 add-result c = search needs
 
--- src/lib.rt:67:17
 returns : tie.Need-returns
 unfolding within
-returns c = simp (sym ((c .before .before .before .before .is-usable .ensures)) ∙ (c .before .before .before .if1 .taken), le-leb _ _ ((c .before .if2 .taken)), (c .size-of .ensures .0))
+returns c = simp (sym (c .before .before .before .before .is-usable .ensures) ∙ (c .before .before .before .if1 .taken), le-leb _ _ (c .before .if2 .taken), (c .size-of .ensures .0))
 
--- src/lib.rt:69:13
 returns-2 : tie.Need-returns-2
 unfolding within
-returns-2 c = simp (sym ((c .before .before .before .is-usable .ensures)) ∙ (c .before .before .if1 .taken), lt-leb _ _ ((c .if2 .left)))
+returns-2 c = simp (sym (c .before .before .before .is-usable .ensures) ∙ (c .before .before .if1 .taken), lt-leb _ _ (c .if2 .left))
 
--- src/lib.rt:61:5
 returns-3 : tie.Need-returns-3
 unfolding within
-returns-3 c = simp (sym ((c .before .is-usable .ensures)) ∙ (c .if1 .left))
+returns-3 c = simp (sym (c .before .is-usable .ensures) ∙ (c .if1 .left))
 
 pub contains-spec : {M : Type 1} → statement M
 contains-spec =

@@ -7,24 +7,20 @@ use Rattle.region.proofs.Region.is_usable.Reads as reads
 use Rattle.region.proofs.Region.is_usable.Lts as lts
 use Rattle.region.proofs.is_aligned.Reads as is-aligned-reads
 
--- src/lib.rt:52:13
 returns : tie.Need-returns
 unfolding usable
-returns c = simp (lt-leb _ _ ((c .if1 .taken)))
+returns c = simp (lt-leb _ _ (c .if1 .taken))
 
--- src/lib.rt:55:13
 returns-2 : tie.Need-returns-2
 unfolding usable
-returns-2 c = simp (le-leb _ _ ((c .before .if1 .left)), lt-leb _ _ ((c .if2 .taken)))
+returns-2 c = simp (le-leb _ _ (c .before .if1 .left), lt-leb _ _ (c .if2 .taken))
 
--- src/lib.rt:57:9
 is-aligned-requires : tie.Need-is-aligned-requires
 is-aligned-requires c κs = search needs
 
--- src/lib.rt:47:5
 returns-3 : tie.Need-returns-3
 unfolding usable
-returns-3 c = simp (le-leb _ _ ((c .before .before .if1 .left)), le-leb _ _ ((c .before .if2 .left))) ((c .is-aligned .ensures))
+returns-3 c = simp (le-leb _ _ (c .before .before .if1 .left), le-leb _ _ (c .before .if2 .left)) (c .is-aligned .ensures)
 
 pub is-usable-spec : {M : Type 1} → statement M
 is-usable-spec = tie.close (tie.spec returns returns-2 is-aligned-requires returns-3)

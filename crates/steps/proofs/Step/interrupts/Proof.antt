@@ -5,95 +5,72 @@ use Rattle.steps.proofs.Step.interrupts.Reads as reads
 use Rattle.steps.proofs.Step.interrupts.Lts as lts
 use Rattle.steps.proofs.is_other_than_none.Reads as is-other-than-none-reads
 
--- src/lib.rt:219:28
 enum-told : tie.Need-enum-told
 enum-told c = search needs
 
--- src/lib.rt:229:18
 enum-told-2 : tie.Need-enum-told-2
 enum-told-2 c = search needs
 
--- src/lib.rt:233:18
 enum-told-3 : tie.Need-enum-told-3
 enum-told-3 c = search needs
 
--- src/lib.rt:238:18
 enum-told-4 : tie.Need-enum-told-4
 enum-told-4 c = search needs
 
--- src/lib.rt:239:43
 enum-told-5 : tie.Need-enum-told-5
 enum-told-5 c = search needs
 
--- src/lib.rt:240:54
 enum-told-6 : tie.Need-enum-told-6
 enum-told-6 c = search needs
 
--- src/lib.rt:246:18
 enum-told-7 : tie.Need-enum-told-7
 enum-told-7 c = search needs
 
--- src/lib.rt:250:17
 enum-known-self : tie.Need-enum-known-self
 enum-known-self c = search needs
 
--- src/lib.rt:251:18
 is-other-than-none-requires : tie.Need-is-other-than-none-requires
 is-other-than-none-requires c κs = search needs
 
--- src/lib.rt:252:38
 enum-told-8 : tie.Need-enum-told-8
 enum-told-8 c = search needs
 
--- src/lib.rt:253:27
 enum-told-9 : tie.Need-enum-told-9
 enum-told-9 c = search needs
 
--- src/lib.rt:254:27
 enum-told-10 : tie.Need-enum-told-10
 enum-told-10 c = search needs
 
--- src/lib.rt:215:5
 returns : tie.Need-returns
 returns c = search needs
 
--- src/lib.rt:215:5
 returns-2 : tie.Need-returns-2
 returns-2 c = search needs
 
--- src/lib.rt:215:5
 returns-3 : tie.Need-returns-3
 returns-3 c = search needs
 
--- src/lib.rt:215:5
 returns-4 : tie.Need-returns-4
 returns-4 c = search needs
 
--- src/lib.rt:215:5
 returns-5 : tie.Need-returns-5
 returns-5 c = search needs
 
--- src/lib.rt:215:5
 returns-6 : tie.Need-returns-6
 returns-6 c = search needs
 
--- src/lib.rt:215:5
 returns-7 : tie.Need-returns-7
 returns-7 c = search needs
 
--- src/lib.rt:215:5
 returns-8 : tie.Need-returns-8
-returns-8 c = rw ((c .before .before .self .given .1)) ((c .is-other-than-none .ensures))
+returns-8 c = rw (c .before .before .self .given .1) (c .is-other-than-none .ensures)
 
--- src/lib.rt:215:5
 returns-9 : tie.Need-returns-9
 returns-9 c = search needs
 
--- src/lib.rt:215:5
 returns-10 : tie.Need-returns-10
 returns-10 c = search needs
 
--- src/lib.rt:215:5
 returns-11 : tie.Need-returns-11
 returns-11 c = search needs
 
