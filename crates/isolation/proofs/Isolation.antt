@@ -1,6 +1,6 @@
 -- Demand 3. Assumes nothing.
 use mathlib.Core.Path.{_≡_, refl, sym, ap, _∙_}
-use mathlib.Core.Bool.{Bool, true, false, _||_, and-false}
+use mathlib.Core.Bool.{Bool, true, false, _||_, and-false, cond}
 use mathlib.Core.List.{List, [], _∷_}
 use Prim.Native.Nat.{ℕ, suc, _+_, _-_, _≤_, _<_}
 use native.Mathlib.Omega.{arith}
@@ -29,7 +29,7 @@ use Rattle.machine.specs.Outcomes.{Outcome, Managed, gives, ends, manages, over
 use Rattle.machine.specs.Service.{settingsOf, savedAtBoundary, enteredMachine, entry, boundary, permitted}
 use Rattle.machine.specs.Steps.{wrongSizes, malformedOn, programWhileHalted, valid, window, there, ported, dataRead, dataWrite, opcode, performed, stepped, Run, run}
 use Rattle.isolation.specs.Service.{OnlyHeader}
-use Rattle.isolation.specs.Isolation.{Locked, NoReset, UpToEntry, lastAnswer, SameHeader, Agree, Isolated}
+use Rattle.isolation.specs.Isolation.{Locked, NoReset, UpToEntry, lastAnswer, SameHeader, Agree, Isolated, throughEntry, SameAnswers}
 use Rattle.isolation.proofs.Ports.{read-keeps, write-keeps}
 use Rattle.isolation.proofs.Cases.{both, either, unlike}
 use Rattle.isolation.proofs.Entering.{only-header, sizes, not-entered}
@@ -240,8 +240,33 @@ module _ (start : Machine) (from : Locked start) (g h : List ℕ) (equal : lengt
       (all (t ∷ ss) (o .stepped .machine) (p .stepped .machine) (o .memory) (p .memory) a′
       (record { outside = b .2; settings = c .settings }) (λ i l. none (suc i) (omega arith)) (λ i l. up (suc i) (omega arith)))
 
+  cut : (b : Bool) (us vs : List Answer) → (b ≡ false → us ≡ vs) → cond b [] us ≡ cond b [] vs
+  cut true us vs f = refl
+  cut false us vs f = f refl
+
+  through : (ss : List Step) (m n : Machine) (x y : Memories) → Apart m n x y → Held start m → NoReset ss
+      → throughEntry (run m x ss .answers) ≡ throughEntry (run n y ss .answers)
+  unfolding run throughEntry
+  through [] m n x y a held none = refl
+  through (s ∷ ss) m n x y a held none =
+      let o = stepped m x s in
+      let p = stepped n y s in
+      let c = step-apart s m n x y a held (none 0 (omega arith)) in
+      rw (← c .same)
+      (ap (λ (l : List Answer). o .stepped .answer ∷ l)
+      (cut (eqb (numberOf (o .stepped .answer)) 11) _ _
+      (λ e. let b = c .before (not-entered (o .stepped .answer) e) in
+      through ss (o .stepped .machine) (o .stepped .machine) (o .memory) (p .memory)
+      (record { machine = refl; main = c .main; first = b .0; second = b .1 })
+      (record { outside = b .2; settings = c .settings }) (λ i l. none (suc i) (omega arith)))))
+
 pub isolated : Isolated
 isolated m main g h ss from equal none k first second =
     all m from g h equal (take k ss) m m (memories main g) (memories main h)
     (record { machine = refl; main = refl; first = refl; second = refl }) (record { outside = from .outside; settings = locked-refl })
     (λ i l. let e = length-take k ss in rw (getD-take k ss i Wake (omega arith)) (none i (omega arith))) first
+
+pub same-answers : SameAnswers
+same-answers m main g h ss from equal none =
+    through m from g h equal ss m m (memories main g) (memories main h)
+    (record { machine = refl; main = refl; first = refl; second = refl }) (record { outside = from .outside; settings = locked-refl }) none

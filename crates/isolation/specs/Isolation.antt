@@ -2,14 +2,16 @@
 -- management memory, and none of it is changed but by entry. One claim about the whole list of steps.
 use Prim.Native.Nat.{ℕ, _-_, _<_, suc}
 use mathlib.Core.Path.{_≡_}
-use mathlib.Core.Bool.{true, false}
-use mathlib.Core.List.{List}
+use mathlib.Core.Bool.{true, false, cond}
+use mathlib.Core.List.{List, [], _∷_}
+use lib.Dec.{eqb}
 use lib.ListN.{length, getD, take}
 use Rattle.memory.specs.Memory.{memories}
 use Rattle.steps.specs.declared.Answer.{Answer}
 use Rattle.steps.specs.declared.Answer.the-variants.{Done, Entered}
 use Rattle.steps.specs.declared.Step.{Step}
 use Rattle.steps.specs.declared.Step.the-variants.{Reset, Wake}
+use Rattle.steps.specs.Answers.{numberOf}
 use Rattle.config.specs.Settings.{smiLock, smac, headerPlace, SameLocked}
 use Rattle.header.specs.declared.Saved.{Saved}
 use Rattle.header.specs.Header.{headerBytes}
@@ -57,3 +59,14 @@ Isolated =
     → let a = run m (memories main g) (take k ss) in
     let b = run m (memories main h) (take k ss) in
     UpToEntry (a .answers) → UpToEntry (b .answers) → Agree m g h a b
+
+-- the answers up to and including the first that is "entered"
+unfoldable pub throughEntry : List Answer → List Answer
+throughEntry [] = []
+throughEntry (a ∷ rest) = a ∷ cond (eqb (numberOf a) (numberOf Entered)) [] (throughEntry rest)
+
+-- the same claim of the answers alone: whatever the whole list goes on to do, they are the same up to the first entry
+abbrev pub SameAnswers : Type 0
+SameAnswers =
+    (m : Machine) (main g h : List ℕ) (ss : List Step) → Locked m → length g ≡ length h → NoReset ss
+    → throughEntry (run m (memories main g) ss .answers) ≡ throughEntry (run m (memories main h) ss .answers)

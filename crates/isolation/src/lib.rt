@@ -1,7 +1,7 @@
 // Theorems about the step: specs/ has their statements, and proofs/ their proofs.
 ghost use Rattle.isolation.specs.Refusals.{RefusedAsCalledFor, RefusalChangesNothing};
 ghost use Rattle.isolation.specs.Service.{EntersAsStated, ResumesAsEntered};
-ghost use Rattle.isolation.specs.Isolation.{Isolated};
+ghost use Rattle.isolation.specs.Isolation.{Isolated, SameAnswers};
 
 // No code of the model: it holds the gate to the theorems, since a function is proved only with all that it ensures.
 fn theorems()
@@ -10,4 +10,5 @@ fn theorems()
     ensures enters { λ r. ⌜ EntersAsStated ⌝ }
     ensures resumes { λ r. ⌜ ResumesAsEntered ⌝ }
     ensures isolated { λ r. ⌜ Isolated ⌝ }
+    ensures answers { λ r. ⌜ SameAnswers ⌝ }
 {}
