@@ -17,8 +17,15 @@ const BOUNDARY: u16 = 8;
 const HALT: u16 = 9;
 const WAKE: u16 = 10;
 
-const INTERRUPTIONS: [&str; 7] =
-    ["none", "input", "output", "string-input", "string-output", "rep-input", "rep-output"];
+const INTERRUPTIONS: [&str; 7] = [
+    "none",
+    "input",
+    "output",
+    "string-input",
+    "string-output",
+    "rep-input",
+    "rep-output",
+];
 const SEGMENTS: [&str; 6] = ["es", "cs", "ss", "ds", "fs", "gs"];
 /// Opcodes 78h to 7Dh. The first two name a segment.
 const OPERAND_OPCODES: [&str; 6] = ["svdc", "rsdc", "svldt", "rsldt", "svts", "rsts"];
@@ -80,7 +87,10 @@ fn parse(text: &str) -> Result<Trace, String> {
             continue;
         }
         if reason.is_some() {
-            return Err(at(number, "nothing may follow the reason for stopping".into()));
+            return Err(at(
+                number,
+                "nothing may follow the reason for stopping".into(),
+            ));
         }
         if words.is_empty() {
             if open.is_some() {
@@ -98,7 +108,11 @@ fn parse(text: &str) -> Result<Trace, String> {
                     let [_, count] = words[..] else {
                         return Err(at(number, "`repeat` takes one number".into()));
                     };
-                    Some((number, parse_number(count, 16).map_err(|e| at(number, e))?, lines.len()))
+                    Some((
+                        number,
+                        parse_number(count, 16).map_err(|e| at(number, e))?,
+                        lines.len(),
+                    ))
                 }
                 ("repeat", Some((from, _, _))) => {
                     return Err(at(number, format!("a repeat is open since line {from}")))
@@ -122,7 +136,11 @@ fn parse(text: &str) -> Result<Trace, String> {
             None => None,
             Some(e) => Some(answer(&e).map_err(|e| at(number, e))?),
         };
-        lines.push(Line { number, bytes, expected });
+        lines.push(Line {
+            number,
+            bytes,
+            expected,
+        });
     }
     match open {
         Some((from, _, _)) => Err(at(from, "`repeat` without `end-repeat`".into())),
@@ -148,8 +166,14 @@ fn answer(words: &[&str]) -> Result<(u32, u32), String> {
         Ok(n) if n <= 12 => n,
         _ => return Err(format!("`{number}` is no answer: they go from 0 to 12")),
     };
-    if value.len() != 8 || !value.bytes().all(|b| matches!(b, b'0'..=b'9' | b'a'..=b'f')) {
-        return Err(format!("the value `{value}` is not eight lowercase hex digits"));
+    if value.len() != 8
+        || !value
+            .bytes()
+            .all(|b| matches!(b, b'0'..=b'9' | b'a'..=b'f'))
+    {
+        return Err(format!(
+            "the value `{value}` is not eight lowercase hex digits"
+        ));
     }
     let value = u32::from_str_radix(value, 16).map_err(|e| e.to_string())?;
     if number != 6 && value != 0 {
@@ -166,7 +190,9 @@ fn parse_number(word: &str, bits: u32) -> Result<u32, String> {
     };
     // from_str_radix alone would take a sign too.
     if digits.is_empty() || !digits.chars().all(|c| c.is_digit(radix)) {
-        return Err(format!("`{word}` is no number (decimal, or hex with a trailing h)"));
+        return Err(format!(
+            "`{word}` is no number (decimal, or hex with a trailing h)"
+        ));
     }
     match u64::from_str_radix(digits, radix) {
         Ok(n) if n < 1u64 << bits => Ok(n as u32),
@@ -194,8 +220,14 @@ impl<'a> Words<'a> {
     }
 
     fn key(&mut self, key: &str) -> Option<&'a str> {
-        let found = self.left.iter().position(|w| w.split_once('=').is_some_and(|(k, _)| k == key))?;
-        self.left.remove(found).split_once('=').map(|(_, value)| value)
+        let found = self
+            .left
+            .iter()
+            .position(|w| w.split_once('=').is_some_and(|(k, _)| k == key))?;
+        self.left
+            .remove(found)
+            .split_once('=')
+            .map(|(_, value)| value)
     }
 
     /// A field that is not written is 0.
@@ -210,7 +242,10 @@ impl<'a> Words<'a> {
     fn done(&self) -> Result<(), String> {
         match self.left.first() {
             None => Ok(()),
-            Some(word) => Err(format!("`{}` doesn't take `{word}`, or not twice", self.name)),
+            Some(word) => Err(format!(
+                "`{}` doesn't take `{word}`, or not twice",
+                self.name
+            )),
         }
     }
 }
@@ -240,14 +275,20 @@ impl Body {
     }
 
     fn record(self, kind: u16) -> Vec<u8> {
-        let mut out = Body::default().half(self.0.len() as u32 + 2).half(kind.into()).0;
+        let mut out = Body::default()
+            .half(self.0.len() as u32 + 2)
+            .half(kind.into())
+            .0;
         out.extend_from_slice(&self.0);
         out
     }
 }
 
 fn record(words: &[&str]) -> Result<Vec<u8>, String> {
-    let mut w = Words { name: words[0], left: words[1..].to_vec() };
+    let mut w = Words {
+        name: words[0],
+        left: words[1..].to_vec(),
+    };
     let body = Body::default();
     let bytes = match words[0] {
         "reset" => body.record(RESET),
@@ -264,11 +305,19 @@ fn record(words: &[&str]) -> Result<Vec<u8>, String> {
             .word(w.next_number("value", 32)?)
             .record(WRITE),
         "in" => body.half(w.next_number("port", 16)?).record(IN),
-        "out" => body.half(w.next_number("port", 16)?).byte(w.next_number("value", 8)?).record(OUT),
+        "out" => body
+            .half(w.next_number("port", 16)?)
+            .byte(w.next_number("value", 8)?)
+            .record(OUT),
         "opcode" => {
             let byte = w.next_number("byte", 8)?;
             let modrm = w.key_number("modrm", 8)?;
-            opcode(byte, modrm, w.key_number("address", 32)?, w.key_number("next", 32)?)
+            opcode(
+                byte,
+                modrm,
+                w.key_number("address", 32)?,
+                w.key_number("next", 32)?,
+            )
         }
         "smint" => opcode(SMINT.into(), 0, 0, w.key_number("next", 32)?),
         "rsm" => opcode(RSM.into(), 0, 0, 0),
@@ -292,8 +341,13 @@ fn registers(w: &mut Words) -> Result<Vec<u8>, String> {
     let (selector, descriptor) = match w.key("cs") {
         None => (0, [0; 8]),
         Some(cs) => {
-            let (s, d) = cs.split_once(':').ok_or("cs: not of the form SELECTOR:DESCRIPTOR")?;
-            (parse_number(s, 16).map_err(|e| format!("cs: {e}"))?, parse_descriptor(d)?)
+            let (s, d) = cs
+                .split_once(':')
+                .ok_or("cs: not of the form SELECTOR:DESCRIPTOR")?;
+            (
+                parse_number(s, 16).map_err(|e| format!("cs: {e}"))?,
+                parse_descriptor(d)?,
+            )
         }
     };
     Ok(body
@@ -310,11 +364,18 @@ fn parse_descriptor(digits: &str) -> Result<[u8; 8], String> {
     if digits.len() != 16 || !digits.bytes().all(|b| b.is_ascii_hexdigit()) {
         return Err(wrong());
     }
-    u64::from_str_radix(digits, 16).map(|d| d.to_be_bytes()).map_err(|_| wrong())
+    u64::from_str_radix(digits, 16)
+        .map(|d| d.to_be_bytes())
+        .map_err(|_| wrong())
 }
 
 fn opcode(byte: u32, modrm: u32, address: u32, next: u32) -> Vec<u8> {
-    Body::default().byte(byte).byte(modrm).word(address).word(next).record(OPCODE)
+    Body::default()
+        .byte(byte)
+        .byte(modrm)
+        .word(address)
+        .word(next)
+        .record(OPCODE)
 }
 
 fn operand_opcode(place: usize, w: &mut Words) -> Result<Vec<u8>, String> {
@@ -326,11 +387,18 @@ fn operand_opcode(place: usize, w: &mut Words) -> Result<Vec<u8>, String> {
     }
     let address = w.next_number("address", 32)?;
     let byte = u32::from(FIRST_OPERAND_OPCODE) + place as u32;
-    Ok(opcode(byte, u32::from(ADDRESS_ALONE) | field << 3, address, w.key_number("next", 32)?))
+    Ok(opcode(
+        byte,
+        u32::from(ADDRESS_ALONE) | field << 3,
+        address,
+        w.key_number("next", 32)?,
+    ))
 }
 
 fn boundary(w: &mut Words) -> Result<Vec<u8>, String> {
-    let body = Body::default().byte(w.key_number("smi", 8)?).word(w.key_number("current", 32)?);
+    let body = Body::default()
+        .byte(w.key_number("smi", 8)?)
+        .word(w.key_number("current", 32)?);
     let name = w.left.iter().position(|word| !word.contains('='));
     let code = match (name, w.key("code")) {
         (Some(_), Some(_)) => return Err("an interruption has a name or a code, not both".into()),
@@ -339,7 +407,10 @@ fn boundary(w: &mut Words) -> Result<Vec<u8>, String> {
         (Some(place), None) => {
             let name = w.left.remove(place);
             let found = INTERRUPTIONS.iter().position(|i| *i == name);
-            found.ok_or(format!("`{name}` is no interruption: {}", INTERRUPTIONS.join(", ")))? as u32
+            found.ok_or(format!(
+                "`{name}` is no interruption: {}",
+                INTERRUPTIONS.join(", ")
+            ))? as u32
         }
     };
     Ok(body
@@ -365,18 +436,37 @@ fn raw(words: &[&str]) -> Result<Vec<u8>, String> {
 // The expected output.
 
 fn expectation(trace: &Trace) -> Result<String, String> {
-    let reason = trace.reason.as_deref().ok_or("the last line, `=> end` or another reason, is missing")?;
-    let stated = trace.lines.iter().take_while(|l| l.expected.is_some()).count();
+    let reason = trace
+        .reason
+        .as_deref()
+        .ok_or("the last line, `=> end` or another reason, is missing")?;
+    let stated = trace
+        .lines
+        .iter()
+        .take_while(|l| l.expected.is_some())
+        .count();
     // Only what the player never reached may stand without an expectation.
     if let Some(line) = trace.lines[stated..].iter().find(|l| l.expected.is_some()) {
         let before = trace.lines[stated].number;
-        return Err(at(line.number, format!("expects an answer, but line {before} before it doesn't")));
+        return Err(at(
+            line.number,
+            format!("expects an answer, but line {before} before it doesn't"),
+        ));
     }
     let unplayed = trace.lines.get(stated);
     match (reason, unplayed) {
-        ("end", Some(line)) => return Err(at(line.number, "no expectation, but the reason is end".into())),
-        ("limit" | "torn" | "bad", None) => return Err(format!("{reason}, but no bytes are left unplayed")),
-        ("limit", _) if stated != LIMIT => return Err(format!("limit after {stated} records, not {LIMIT}")),
+        ("end", Some(line)) => {
+            return Err(at(
+                line.number,
+                "no expectation, but the reason is end".into(),
+            ))
+        }
+        ("limit" | "torn" | "bad", None) => {
+            return Err(format!("{reason}, but no bytes are left unplayed"))
+        }
+        ("limit", _) if stated != LIMIT => {
+            return Err(format!("limit after {stated} records, not {LIMIT}"))
+        }
         ("long", _) if stated != 0 => return Err("an input that is too long has no answers".into()),
         _ => (),
     }
@@ -407,7 +497,10 @@ impl Fields<'_> {
     fn number(&mut self, bytes: usize) -> u32 {
         let (field, rest) = self.0.split_at(bytes);
         self.0 = rest;
-        field.iter().rev().fold(0, |n, byte| n << 8 | u32::from(*byte))
+        field
+            .iter()
+            .rev()
+            .fold(0, |n, byte| n << 8 | u32::from(*byte))
     }
 
     fn show(&mut self, bytes: usize) -> String {
@@ -435,16 +528,22 @@ fn show_record(kind: u16, body: &[u8]) -> String {
         WRITE => format!("write {} {} {}", f.show(1), f.show(4), f.show(4)),
         IN => format!("in {}", f.show(2)),
         OUT => format!("out {} {}", f.show(2), f.show(1)),
-        OPCODE => {
-            show_opcode(f.number(1) as u8, f.number(1) as u8, f.number(4), f.number(4))
-        }
+        OPCODE => show_opcode(
+            f.number(1) as u8,
+            f.number(1) as u8,
+            f.number(4),
+            f.number(4),
+        ),
         _ => show_boundary(&mut f),
     }
 }
 
 /// The mnemonic where it stands for just these bytes, else the general form.
 fn show_opcode(byte: u8, modrm: u8, address: u32, next: u32) -> String {
-    let (place, field) = (byte.wrapping_sub(FIRST_OPERAND_OPCODE) as usize, (modrm >> 3 & 7) as usize);
+    let (place, field) = (
+        byte.wrapping_sub(FIRST_OPERAND_OPCODE) as usize,
+        (modrm >> 3 & 7) as usize,
+    );
     let (shown_address, shown_next) = (show_number(address), show_number(next));
     match (OPERAND_OPCODES.get(place), SEGMENTS.get(field)) {
         (Some(name), Some(segment)) if place < 2 && modrm & 0xC7 == ADDRESS_ALONE => {
