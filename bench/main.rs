@@ -1,0 +1,118 @@
+// Times the replay alone: a trace of 5,000 four-byte accesses, half of them in the region, reads and writes in turn. Both memories are
+// cleared before each run, outside the time. Prints the best and the median of many runs.
+//
+//   rt staticlib export && rustc -O bench/main.rs -L target/staticlib -l static=export -o target/replay-bench && target/replay-bench
+use std::time::Instant;
+
+extern "C" {
+    // The slices pass as a pointer and a length, the arrays and the number as a pointer.
+    fn rostuvlad_replay(
+        trace: *const u8,
+        trace_len: usize,
+        main: *mut u8,
+        main_len: usize,
+        management: *mut u8,
+        management_len: usize,
+        numbers: *mut u8,
+        values: *mut u32,
+        reason: *mut u8,
+    ) -> usize;
+}
+
+const MEMORY: usize = 65_536;
+const RECORDS: usize = 10_000;
+const ACCESSES: usize = 5_000;
+const RUNS: usize = 3_000;
+
+struct Bench {
+    main: Vec<u8>,
+    management: Vec<u8>,
+    numbers: Vec<u8>,
+    values: Vec<u32>,
+    reason: u8,
+}
+
+impl Bench {
+    fn replay(&mut self, trace: &[u8]) -> usize {
+        assert!(self.numbers.len() == RECORDS && self.values.len() == RECORDS);
+        unsafe {
+            rostuvlad_replay(
+                trace.as_ptr(),
+                trace.len(),
+                self.main.as_mut_ptr(),
+                self.main.len(),
+                self.management.as_mut_ptr(),
+                self.management.len(),
+                self.numbers.as_mut_ptr(),
+                self.values.as_mut_ptr(),
+                &mut self.reason,
+            )
+        }
+    }
+}
+
+fn out(trace: &mut Vec<u8>, port: u16, value: u8) {
+    trace.extend([5, 0, 6, 0]);
+    trace.extend(port.to_le_bytes());
+    trace.push(value);
+}
+
+fn read(trace: &mut Vec<u8>, address: u32) {
+    trace.extend([7, 0, 3, 0, 4]);
+    trace.extend(address.to_le_bytes());
+}
+
+fn write(trace: &mut Vec<u8>, address: u32, value: u32) {
+    trace.extend([11, 0, 4, 0, 4]);
+    trace.extend(address.to_le_bytes());
+    trace.extend(value.to_le_bytes());
+}
+
+// SMAR 000683h, 16 KiB at 68000h, with USE_SMI and SMAC: the region's bytes go to management memory.
+fn trace() -> Vec<u8> {
+    let mut t = vec![];
+    for (index, value) in [(0xCD, 0x00), (0xCE, 0x06), (0xCF, 0x83), (0xC1, 0x06)] {
+        out(&mut t, 0x22, index);
+        out(&mut t, 0x23, value);
+    }
+    let mut seed = 12_345u64;
+    let mut random = || {
+        seed = seed.wrapping_mul(6_364_136_223_846_793_005).wrapping_add(1_442_695_040_888_963_407);
+        (seed >> 33) as u32
+    };
+    for i in 0..ACCESSES {
+        let address = if i % 2 == 0 { 0x68000 + random() % (16_384 - 3) } else { random() % (MEMORY as u32 - 3) };
+        if i / 2 % 2 == 0 {
+            read(&mut t, address);
+        } else {
+            write(&mut t, address, random());
+        }
+    }
+    t
+}
+
+fn main() {
+    let t = trace();
+    let mut b = Bench {
+        main: vec![0; MEMORY],
+        management: vec![0; MEMORY],
+        numbers: vec![0; RECORDS],
+        values: vec![0; RECORDS],
+        reason: 9,
+    };
+    let mut times = vec![];
+    let mut count = 0;
+    for _ in 0..RUNS {
+        b.main.fill(0);
+        b.management.fill(0);
+        let start = Instant::now();
+        count = b.replay(&t);
+        times.push(start.elapsed().as_nanos() as f64);
+    }
+    assert!(count == ACCESSES + 8 && b.reason == 0, "count {count}, reason {}", b.reason);
+    times.sort_by(|x, y| x.total_cmp(y));
+    let per = |ns: f64| ns / count as f64;
+    println!("records {count}, runs {RUNS}");
+    println!("best   {:8.0} ns, {:6.2} ns a record", times[0], per(times[0]));
+    println!("median {:8.0} ns, {:6.2} ns a record", times[RUNS / 2], per(times[RUNS / 2]));
+}
