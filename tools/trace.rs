@@ -1,4 +1,5 @@
-//! Traces as text (docs/TRACES.md): text to bytes, bytes to text, and the output that a text expects.
+//! Traces as text (docs/TRACES.md): text to bytes, bytes to text, the output that a text
+//! expects, and a replay's output beside the text.
 //! It knows the form of records only, and nothing of what a step does.
 //! Build: rustc -O tools/trace.rs -o target/trace
 
@@ -602,6 +603,43 @@ fn first_record(bytes: &[u8]) -> Option<(String, &[u8])> {
     (body_length(kind)? == body.len()).then(|| (show_record(kind, body), after))
 }
 
+/// The text with what a replay printed beside each line; a line that is not as expected says so.
+fn beside(text: &str, trace: &Trace, printed: &str) -> String {
+    let mut answers: Vec<Vec<&str>> = vec![Vec::new(); text.lines().count() + 1];
+    let mut rest = printed.lines().peekable();
+    for line in &trace.lines {
+        match rest.next_if(|p| p.contains(' ')) {
+            Some(printed) => answers[line.number].push(printed),
+            None => break,
+        }
+    }
+    let mut out = String::new();
+    for (index, whole) in text.lines().enumerate() {
+        let (code, comment) = match whole.split_once('#') {
+            Some((code, comment)) => (code, format!("  #{comment}")),
+            None => (whole, String::new()),
+        };
+        let Some(first) = answers[index + 1].first() else {
+            if !code.trim_start().starts_with("=>") {
+                out.push_str(&format!("{whole}\n"));
+            }
+            continue;
+        };
+        let left = code.split("=>").next().unwrap_or("").trim_end();
+        let wanted = trace.lines.iter().find(|l| l.number == index + 1).and_then(|l| l.expected);
+        let note = match (wanted, answers[index + 1].len()) {
+            (Some((n, v)), _) if *first != format!("{n} {v:08x}") => format!("  NOT {n} {v:08x}"),
+            (_, 1) => String::new(),
+            (_, times) => format!("  ({times} times)"),
+        };
+        out.push_str(&format!("{left:<36} -> {first}{note}{comment}\n"));
+    }
+    for line in rest {
+        out.push_str(&format!("{line}\n"));
+    }
+    out
+}
+
 fn run(command: &str, path: &str) -> Result<Vec<u8>, String> {
     let input = std::fs::read(path).map_err(|e| e.to_string())?;
     if command == "text" {
@@ -611,6 +649,10 @@ fn run(command: &str, path: &str) -> Result<Vec<u8>, String> {
     let trace = parse(&text)?;
     match command {
         "bytes" => Ok(trace.lines.into_iter().flat_map(|l| l.bytes).collect()),
+        "beside" => {
+            let printed = std::io::read_to_string(std::io::stdin()).map_err(|e| e.to_string())?;
+            Ok(beside(&text, &trace, &printed).into_bytes())
+        }
         _ => expectation(&trace).map(String::into_bytes),
     }
 }
@@ -618,7 +660,7 @@ fn run(command: &str, path: &str) -> Result<Vec<u8>, String> {
 fn main() {
     let args: Vec<String> = std::env::args().skip(1).collect();
     let [command, path] = &args[..] else { usage() };
-    if !["bytes", "text", "expect"].contains(&command.as_str()) {
+    if !["bytes", "text", "expect", "beside"].contains(&command.as_str()) {
         usage();
     }
     let written = run(command, path)
@@ -633,5 +675,6 @@ fn usage() -> ! {
     eprintln!("usage: trace bytes FILE.txt   the trace's bytes");
     eprintln!("       trace text FILE.bin    the bytes as text");
     eprintln!("       trace expect FILE.txt  the output that the text expects");
+    eprintln!("       trace beside FILE.txt  the text beside a replay's output, which is standard input");
     exit(1);
 }
