@@ -6,16 +6,24 @@ use mathlib.Core.List.{List, [], _∷_}
 use lib.ListN.{length, getD}
 use Rattle.region.specs.declared.Region.{Region}
 use Rattle.region.specs.Region.{regionOf, sizeOf, usable}
+use Rattle.memory.specs.Memory.{Memories}
+use Rattle.steps.specs.declared.Interruption.{Interruption}
 use Rattle.steps.specs.declared.Interruption.the-variants.{Output}
+use Rattle.steps.specs.declared.Step.the-variants.{Boundary}
+use Rattle.steps.specs.Answers.{numberOf}
+use Rattle.steps.specs.Steps.{malformed}
 use Rattle.config.specs.declared.Settings.{Settings}
-use Rattle.config.specs.Settings.{smiLock, regionIn, headerPlace, written}
+use Rattle.config.specs.Settings.{useSmi, smac, smiLock, regionIn, written}
 use Rattle.header.specs.declared.Level.{Level}
 use Rattle.header.specs.declared.Level.the-variants.{Zero, Three}
 use Rattle.header.specs.declared.Registers.{Registers}
-use Rattle.header.specs.declared.Saved.{Saved}
 use Rattle.header.specs.Words.{number, wordAt}
-use Rattle.header.specs.Header.{trapOf, headerBytes}
-use Rattle.header.specs.Entry.{entryRegisters}
+use Rattle.header.specs.Header.{headerBytes}
+use Rattle.machine.specs.declared.Machine.{Machine}
+use Rattle.machine.specs.Outcomes.{Outcome}
+use Rattle.machine.specs.Service.{settingsOf, savedAtBoundary}
+use Rattle.machine.specs.Steps.{wrongSizes, malformedOn, stepped}
+use Rattle.isolation.specs.Service.{OnlyHeader}
 
 abbrev pub region : ℕ → ℕ → Region
 region base code = record { base = base; code = code }
@@ -30,52 +38,86 @@ pub data Line : Type 0 where
   Smar : (high middle low base code size : ℕ) → Line
   -- base and code; is the region usable
   IsUsable : (base code : ℕ) (answer : Bool) → Line
-  -- base and code; the first and the last byte of the header in the region
-  HeaderAt : (base code first last : ℕ) → Line
-  -- base and code; the CS selector that entry loads
-  EntryCs : (base code selector : ℕ) → Line
-  -- CR0 before entry and after
-  EntryCr0 : (before after : ℕ) → Line
-  -- level and CS selector; the header's word at -18h
-  LevelWord : (level : Level) (selector word : ℕ) → Line
   -- CCR1 before a write under the lock outside the mode, the byte written, and CCR1 after
   LockedCcr1 : (before value after : ℕ) → Line
-  -- what entry saves; the header's 48 bytes upward
-  Header : (saved : Saved) (bytes : List ℕ) → Line
+  -- The rest are of one step, a boundary with SMI asserted, which enters: of every such step of every machine with what is given.
+  -- base and code; the first and the last byte of the header in management memory
+  HeaderAt : (base code first last : ℕ) → Line
+  -- base and code; the CS selector after it
+  EntryCs : (base code selector : ℕ) → Line
+  -- CR0 before it and after
+  EntryCr0 : (before after : ℕ) → Line
+  -- level and CS selector before it; the header's word at -18h
+  LevelWord : (level : Level) (selector word : ℕ) → Line
+  -- the registers of a machine that is not halted, the current address and the interruption; the header's 48 bytes upward
+  Header : (registers : Registers) (current : ℕ) (i : Interruption) (bytes : List ℕ) → Line
 
--- What a row states of the rules, whatever else a machine holds.
+-- Before a boundary with SMI asserted: any machine outside the mode with USE_SMI 1 and SMAC 0, halted or not, and any memories of the
+-- right sizes, where the step is not malformed.
+pub record Before (current : ℕ) (i : Interruption) : Type 0 where
+  pub machine : Machine
+  pub memory : Memories
+  pub outside : machine .inside ≡ false
+  pub on : useSmi (settingsOf machine) ≡ true
+  pub closed : smac (settingsOf machine) ≡ false
+  pub sizes : wrongSizes memory ≡ false
+  pub formed : malformedOn machine (Boundary 1 current i) ≡ false
+
+module _ {current : ℕ} {i : Interruption} (b : Before current i) where
+  abbrev pub regionBefore : Region
+  regionBefore = regionIn (settingsOf (b .machine))
+
+  abbrev pub outcome : Outcome
+  outcome = stepped (b .machine) (b .memory) (Boundary 1 current i)
+
+  -- "entered"
+  abbrev pub Enters : Type 0
+  Enters = numberOf (outcome .stepped .answer) ≡ 11
+
+  -- the step stores 48 bytes from a place of management memory on, and no other byte there changes
+  abbrev pub Stores : ℕ → List ℕ → Type 0
+  Stores = OnlyHeader (b .memory .management) (outcome .memory .management)
+
+  -- "Offsets from the region's end"
+  abbrev pub below : ℕ → ℕ
+  below offset = sizeOf (regionBefore .code) - offset
+
+-- What a row states, whatever else a machine holds.
 abbrev pub holds : Line → Type 0
 holds (Smar high middle low base code size) = (regionOf high middle low ≡ region base code) × (sizeOf code ≡ size)
 holds (IsUsable base code answer) = usable (region base code) ≡ answer
-holds (HeaderAt base code first last) =
-    (s : Settings) → regionIn s ≡ region base code
-    → (headerPlace s ≡ first) × ((x : Saved) → first + length (headerBytes x) ≡ last + 1)
-holds (EntryCs base code selector) = (r : Registers) → entryRegisters r (region base code .base) .cs .selector ≡ selector
-holds (EntryCr0 before after) = (r : Registers) (base : ℕ) → r .cr0 ≡ before → entryRegisters r base .cr0 ≡ after
-holds (LevelWord level selector word) =
-    (x : Saved) → x .registers .level ≡ level → x .registers .cs .selector ≡ selector → wordAt (headerBytes x) (48 - 0x18) ≡ word
 holds (LockedCcr1 before value after) =
     (s : Settings) → smiLock s ≡ true → s .ccr1 ≡ before → written s 0xc1 value outside .ccr1 ≡ after
-holds (Header saved bytes) = headerBytes saved ≡ bytes
+holds (HeaderAt base code first last) =
+    (current : ℕ) (i : Interruption) (b : Before current i) → regionBefore b ≡ region base code
+    → Enters b × Stores b first (headerBytes (savedAtBoundary (b .machine) current i)) × (first + 48 ≡ last + 1)
+holds (EntryCs base code selector) =
+    (current : ℕ) (i : Interruption) (b : Before current i) → regionBefore b ≡ region base code
+    → Enters b × (outcome b .stepped .machine .registers .cs .selector ≡ selector)
+holds (EntryCr0 before after) =
+    (current : ℕ) (i : Interruption) (b : Before current i) → usable (regionBefore b) ≡ true
+    → b .machine .registers .cr0 ≡ before → Enters b × (outcome b .stepped .machine .registers .cr0 ≡ after)
+holds (LevelWord level selector word) =
+    (current : ℕ) (i : Interruption) (b : Before current i) → usable (regionBefore b) ≡ true
+    → b .machine .registers .level ≡ level → b .machine .registers .cs .selector ≡ selector
+    → Enters b × (wordAt (outcome b .memory .management) (below b 0x18) ≡ word)
+-- the first part: the row names a step that a machine can take
+holds (Header registers current i bytes) =
+    (malformed (Boundary 1 current i) ≡ false)
+    × ((b : Before current i) → usable (regionBefore b) ≡ true → b .machine .registers ≡ registers → b .machine .halted ≡ false
+    → Enters b × Stores b (below b 0x30) bytes)
 
 -- P11: "DR7 400h, EFLAGS 202h, CR0 E0000011h, current 1000h, EIP 1002h, CS 0008h FF FF 00 00 00 9B CF 00, level 0, not writable, output of
--- byte FEh to 64h". Next IP is EIP.
-abbrev pub savedInP11 : Saved
-savedInP11 = record {
-  registers = record {
-    eip = 0x1002;
-    eflags = 0x202;
-    cr0 = 0xe0000011;
-    dr7 = 0x400;
-    cs = record { selector = 0x0008; descriptor = number (0xff ∷ 0xff ∷ 0x00 ∷ 0x00 ∷ 0x00 ∷ 0x9b ∷ 0xcf ∷ 0x00 ∷ []) };
-    level = Zero;
-    writable = false;
-  };
-  current = 0x1000;
-  next = 0x1002;
-  trap = trapOf (Output (record { port = 0x64; size = 1; value = 0xfe }));
-  smint = false;
-  halted = false;
+-- byte FEh to 64h"
+abbrev pub registersInP11 : Registers
+registersInP11 = record {
+  eip = 0x1002;
+  eflags = 0x202;
+  cr0 = 0xe0000011;
+  dr7 = 0x400;
+  cs = record { selector = 0x0008; descriptor = number (0xff ∷ 0xff ∷ 0x00 ∷ 0x00 ∷ 0x00 ∷ 0x9b ∷ 0xcf ∷ 0x00 ∷ []) };
+  level = Zero;
+  writable = false;
 }
 
 unfoldable pub sheet : List Line
@@ -106,7 +148,7 @@ sheet =
     -- P10
     ∷ LockedCcr1 0x06 0xf1 0xf7
     -- P11
-    ∷ Header savedInP11
+    ∷ Header registersInP11 0x1000 (Output (record { port = 0x64; size = 1; value = 0xfe }))
     (0x00 ∷ 0x00 ∷ 0x00 ∷ 0x00
     ∷ 0xfe ∷ 0x00 ∷ 0x00 ∷ 0x00
     ∷ 0x64 ∷ 0x00 ∷ 0x01 ∷ 0x00
