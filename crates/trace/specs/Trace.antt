@@ -43,7 +43,7 @@ registersOf b =
 abbrev pub interruptions : Transfer → ℕ → List Interruption
 interruptions t i = None ∷ Input ∷ Output t ∷ StringInput i ∷ StringOutput t i ∷ RepInput i ∷ RepOutput t i ∷ []
 
--- "interruption 1 (0 to 6 as ordered above)"
+-- "interruption 1 (0 to 6 as ordered above)"; boundaryOf asks for no other code
 unfoldable pub interruptionOf : ℕ → Transfer → ℕ → Interruption
 interruptionOf code t i = getD (interruptions t i) code None
 
