@@ -1,8 +1,7 @@
 -- The digits of a number, by how many it has. Assumes nothing.
-use mathlib.Core.Path.{_≡_, refl, sym, ap, _∙_}
-use mathlib.Core.List.{List, [], _∷_, _++_}
-use Prim.Native.Nat.{ℕ, zero, suc, _+_, _/_, _%_, _≤_, _<_}
-use native.Mathlib.Nat.{add-zero}
+use mathlib.Core.Path.{_≡_, refl}
+use mathlib.Core.List.{[], _∷_}
+use Prim.Native.Nat.{ℕ, zero, suc, _/_, _%_, _≤_, _<_}
 use native.Mathlib.Omega.{arith}
 use borrow.Author.Tests.{lt-ltb, le-ltb}
 use lib.ListN.{length, length-append}
@@ -32,5 +31,4 @@ pub hex-length : (count v : ℕ) → length (hexOf count v) ≡ count
 unfolding hexOf
 hex-length zero v = refl
 hex-length (suc count) v =
-    let e : length (hexOf count (v / 16)) ≡ count = hex-length count (v / 16) in
-    length-append (hexOf count (v / 16)) _ ∙ omega arith
+    omega (arith, length-append (hexOf count (v / 16)) (digitOf (v % 16) ∷ []), hex-length count (v / 16))

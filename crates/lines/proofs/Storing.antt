@@ -6,7 +6,7 @@ use native.Mathlib.Nat.{add-zero, not-suc-le-zero}
 use native.Mathlib.Numerals.{add-one}
 use native.Mathlib.Omega.{arith}
 use lib.ListN.{length, getD, take, drop, set, length-append, drop-of-length-le}
-use lib.Seq.{sets, set-comm, drop-cons, getD-take, length-take-le}
+use lib.Seq.{sets, set-comm, drop-cons}
 use Rattle.lines.specs.Lines.{space, newline, digitOf, decimalOf, hexOf, lineOf}
 use Rattle.lines.specs.Stores.{linesFor, Stored, Written}
 use Rattle.lines.proofs.Digits.{one-digit, two-digits, three-digits, hex-length}

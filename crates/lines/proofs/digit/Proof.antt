@@ -3,23 +3,17 @@ use borrow.Author.Tests.{lt-ltb, le-ltb}
 use borrow.Author.Needs.{needs}
 use Rattle.lines.proofs.digit.Statement.{statement}
 use Rattle.lines.proofs.digit.Tie as tie
-use Rattle.lines.proofs.digit.Reads as reads
-use Rattle.lines.proofs.digit.Lts as lts
 
--- src/lib.rt:19:17
 add-result : tie.Need-add-result
 add-result c = search needs
 
--- src/lib.rt:19:35
 add-result-2 : tie.Need-add-result-2
 add-result-2 c = search needs
 
--- src/lib.rt:15:1
 returns : tie.Need-returns
 unfolding digitOf
 returns c = simp (lt-ltb _ _ (c .if1 .taken))
 
--- src/lib.rt:15:1
 returns-2 : tie.Need-returns-2
 unfolding digitOf
 returns-2 c = simp (le-ltb _ _ (c .if1 .left))
