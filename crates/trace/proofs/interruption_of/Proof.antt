@@ -1,0 +1,61 @@
+use native.Mathlib.Omega.{arith}
+use mathlib.Core.Path.{_≡_, sym}
+use Prim.Native.Nat.{ℕ, _+_, _≤_}
+use lib.ListN.{List·getD-eq-default}
+use Rattle.trace.specs.Trace.{interruptions, interruptionOf}
+use Rattle.trace.proofs.interruption_of.Statement.{statement}
+use Rattle.trace.proofs.interruption_of.Tie as tie
+use Rattle.trace.proofs.interruption_of.Reads as reads
+use Rattle.trace.proofs.interruption_of.Lts as lts
+
+-- src/lib.rt:66:1
+returns : tie.Need-returns
+unfolding interruptionOf
+returns c = rw (c .match .keys1)
+
+-- src/lib.rt:66:1
+returns-2 : tie.Need-returns-2
+unfolding interruptionOf
+returns-2 c = rw (c .match .keys2)
+
+-- src/lib.rt:66:1
+returns-3 : tie.Need-returns-3
+unfolding interruptionOf
+returns-3 c = rw (c .match .keys3)
+
+-- src/lib.rt:66:1
+returns-4 : tie.Need-returns-4
+unfolding interruptionOf
+returns-4 c = rw (c .match .keys4)
+
+-- src/lib.rt:66:1
+returns-5 : tie.Need-returns-5
+unfolding interruptionOf
+returns-5 c = rw (c .match .keys5)
+
+-- src/lib.rt:66:1
+returns-6 : tie.Need-returns-6
+unfolding interruptionOf
+returns-6 c = rw (c .match .keys6)
+
+-- src/lib.rt:66:1
+returns-7 : tie.Need-returns-7
+unfolding interruptionOf
+returns-7 c = rw (c .match .keys7)
+
+past : (n k : ℕ) → k ≤ n → (n ≡ k → ⊥) → k + 1 ≤ n
+past n k h e = omega arith
+
+-- src/lib.rt:66:1
+returns-8 : tie.Need-returns-8
+unfolding interruptionOf
+returns-8 c =
+    let r = c .match .rest in
+    sym
+    (List·getD-eq-default (interruptions (c .before .args .output) (c .before .args .index)) _
+    (past _ 6 (past _ 5 (past _ 4 (past _ 3 (past _ 2 (past _ 1 (past _ 0 (omega arith) (r .0 .0 .0 .0 .0 .0 .1)) (r .0 .0 .0 .0 .0 .1)) (r .0 .0 .0 .0 .1)) (r .0 .0 .0 .1)) (r .0 .0 .1)) (r .0 .1)) (r .1)))
+
+pub interruption-of-spec : {M : Type 1} → statement M
+interruption-of-spec =
+    tie.close
+    (tie.spec returns returns-2 returns-3 returns-4 returns-5 returns-6 returns-7 returns-8)
