@@ -13,7 +13,7 @@ field-add l at (suc m) n =
     let e : suc m + n ≡ suc (m + n) = omega arith in
     let f : at + 1 + m ≡ at + suc m = omega arith in
     let g : 256 ^ suc m * fieldAt l (at + suc m) n ≡ 256 * (256 ^ m * fieldAt l (at + suc m) n)
-        = ap (λ (k : ℕ). k * fieldAt l (at + suc m) n) (pow-succ' 256 m) ∙ mul-assoc 256 (256 ^ m) _ in
+    = ap (λ (k : ℕ). k * fieldAt l (at + suc m) n) (pow-succ' 256 m) ∙ mul-assoc 256 (256 ^ m) _ in
     let h : fieldAt l (at + 1) (m + n) ≡ fieldAt l (at + 1) m + 256 ^ m * fieldAt l (at + suc m) n
-        = field-add l (at + 1) m n ∙ ap (λ (k : ℕ). fieldAt l (at + 1) m + 256 ^ m * fieldAt l k n) f in
+    = field-add l (at + 1) m n ∙ ap (λ (k : ℕ). fieldAt l (at + 1) m + 256 ^ m * fieldAt l k n) f in
     rw e (omega (arith, g, h))

@@ -14,24 +14,24 @@ module _ (l : List ℕ) (at : ℕ) where
   unfolding foundAt
   found-end h = simp (le-leb _ _ h)
 
-  module _ (h : at < length l) where
-    pub found-short : length l - at < 2 → Torn ≡ foundAt l at
+  pub found-short : at < length l → length l < at + 2 → Torn ≡ foundAt l at
+  unfolding foundAt
+  found-short h k = simp (lt-leb _ _ h, lt-ltb _ _ k)
+
+  -- n is the length that the record says
+  module _ (n : ℕ) (e : n ≡ fieldAt l at 2) where
+    pub found-over : at + 2 ≤ length l → length l < at + 2 + n → Torn ≡ foundAt l at
     unfolding foundAt
-    found-short k = simp (lt-leb _ _ h, lt-ltb (length l) (at + 2) (omega arith))
+    found-over h k = simp (lt-leb (length l) at (omega arith), le-ltb _ _ h, ← e, lt-ltb _ _ k)
 
-    module _ (n : ℕ) (e : n ≡ fieldAt l at 2) (k : 2 ≤ length l - at) where
-      pub found-over : length l - at - 2 < n → Torn ≡ foundAt l at
+    module _ (h : at + 2 + n ≤ length l) where
+      pub found-small : n < 2 → Bad ≡ foundAt l at
       unfolding foundAt
-      found-over i = simp (lt-leb _ _ h, le-ltb (length l) (at + 2) (omega arith), ← e, lt-ltb (length l) (at + 2 + n) (omega arith))
+      found-small k = simp (lt-leb (length l) at (omega arith), le-ltb (length l) (at + 2) (omega arith), ← e, le-ltb _ _ h, lt-ltb _ _ k)
 
-      module _ (i : n ≤ length l - at - 2) where
-        pub found-small : n < 2 → Bad ≡ foundAt l at
-        unfolding foundAt
-        found-small j = simp (lt-leb _ _ h, le-ltb (length l) (at + 2) (omega arith), ← e, le-ltb (length l) (at + 2 + n) (omega arith), lt-ltb _ _ j)
-
-        pub found-whole : 2 ≤ n → (kind : ℕ) → kind ≡ fieldAt l (at + 2) 2 → (r : Found)
-            → r ≡ decoded kind (take (at + 2 + n - (at + 4)) (drop (at + 4) l)) (at + 2 + n) → r ≡ foundAt l at
-        unfolding foundAt
-        found-whole j kind f r g =
-            let s : at + 2 + n - (at + 4) ≡ n - 2 = omega arith in
-            simp (lt-leb _ _ h, le-ltb (length l) (at + 2) (omega arith), ← e, le-ltb (length l) (at + 2 + n) (omega arith), le-ltb _ _ j, ← f, ← s, g)
+      pub found-whole : 2 ≤ n → (kind : ℕ) → kind ≡ fieldAt l (at + 2) 2 → (r : Found)
+          → r ≡ decoded kind (take (at + 2 + n - (at + 4)) (drop (at + 4) l)) (at + 2 + n) → r ≡ foundAt l at
+      unfolding foundAt
+      found-whole k kind f r g =
+          let s : at + 2 + n - (at + 4) ≡ n - 2 = omega arith in
+          simp (lt-leb (length l) at (omega arith), le-ltb (length l) (at + 2) (omega arith), ← e, le-ltb _ _ h, le-ltb _ _ k, ← f, ← s, g)

@@ -1,6 +1,6 @@
 -- 01, "Trace player": the records of a trace, and what stands at a place of it.
 use Prim.Native.Nat.{ℕ, zero, suc, _+_, _*_, _-_}
-use mathlib.Core.Bool.{cond, _||_}
+use mathlib.Core.Bool.{Bool, cond, _||_}
 use mathlib.Core.List.{List, [], _∷_}
 use lib.ListN.{length, getD, take, drop}
 use lib.Dec.{leb, ltb, eqb}
@@ -94,10 +94,18 @@ decodedBy (k ∷ ks) number b next =
 unfoldable pub decoded : ℕ → List ℕ → ℕ → Found
 decoded number b next = decodedBy kinds number b next
 
--- "tested so: end (no bytes left), .. torn (fewer than 2 bytes, or the length overshoots), bad (length below 2, unknown kind, wrong length)"
+-- "end (no bytes left)"
+abbrev pub ended : List ℕ → ℕ → Bool
+ended l at = leb (length l) at
+
+-- "torn (fewer than 2 bytes, or the length overshoots)"
+abbrev pub torn : List ℕ → ℕ → Bool
+torn l at = ltb (length l) (at + 2) || ltb (length l) (pastAt l at)
+
+-- "bad (length below 2, ..)"
+abbrev pub short : List ℕ → ℕ → Bool
+short l at = ltb (lengthAt l at) 2
+
+-- what stands at a place: "tested so: end .., torn .., bad .."
 unfoldable pub foundAt : List ℕ → ℕ → Found
-foundAt l at =
-    cond (leb (length l) at) End
-    (cond (ltb (length l) (at + 2) || ltb (length l) (pastAt l at)) Torn
-    (cond (ltb (lengthAt l at) 2) Bad
-    (decoded (kindAt l at) (bodyAt l at) (pastAt l at))))
+foundAt l at = cond (ended l at) End (cond (torn l at) Torn (cond (short l at) Bad (decoded (kindAt l at) (bodyAt l at) (pastAt l at))))

@@ -45,21 +45,27 @@ fn half(s: &[u8], at: usize) -> u16
     requires { ⌜ at + 2 ≤ length (now s) ⌝ }
     ensures { λ r. ⌜ r ≡ fieldAt (now (s .entry)) at 2 ⌝ }
 {
-    wide(byte(s, at)) + 256 * wide(byte(s, at + 1))
+    let low = wide(byte(s, at));
+    let high = wide(byte(s, at + 1));
+    low + 256 * high
 }
 
 fn word(s: &[u8], at: usize) -> u32
     requires { ⌜ at + 4 ≤ length (now s) ⌝ }
     ensures { λ r. ⌜ r ≡ fieldAt (now (s .entry)) at 4 ⌝ }
 {
-    wider(half(s, at)) + 65536 * wider(half(s, at + 2))
+    let low = wider(half(s, at));
+    let high = wider(half(s, at + 2));
+    low + 65536 * high
 }
 
 fn long(s: &[u8], at: usize) -> u64
     requires { ⌜ at + 8 ≤ length (now s) ⌝ }
     ensures { λ r. ⌜ r ≡ fieldAt (now (s .entry)) at 8 ⌝ }
 {
-    widest(word(s, at)) + 4294967296 * widest(word(s, at + 4))
+    let low = widest(word(s, at));
+    let high = widest(word(s, at + 4));
+    low + 4294967296 * high
 }
 
 // The interruption of a code up to 6.
@@ -232,7 +238,7 @@ pub fn read_record(trace: &[u8], at: usize) -> Found
     }
     let length = half(trace, at) as usize;
     if left - 2 < length {
-        return Found::Torn;
+        return Found::Torn; // the length overshoots
     }
     if length < 2 {
         return Found::Bad;

@@ -3,171 +3,129 @@ use Rattle.trace.specs.Trace.{decoded, decodedBy}
 use borrow.Author.Needs.{needs}
 use Rattle.trace.proofs.decode.Statement.{statement}
 use Rattle.trace.proofs.decode.Tie as tie
-use Rattle.trace.proofs.decode.Reads as reads
-use Rattle.trace.proofs.decode.Lts as lts
-use Rattle.trace.proofs.boundary.Reads as boundary-reads
-use Rattle.trace.proofs.byte.Reads as byte-reads
-use Rattle.trace.proofs.half.Reads as half-reads
-use Rattle.trace.proofs.registers.Reads as registers-reads
-use Rattle.trace.proofs.word.Reads as word-reads
 
--- src/lib.rt:132:23
 registers-requires : tie.Need-registers-requires
 registers-requires c κs = search needs
 
--- src/lib.rt:141:28
 byte-requires : tie.Need-byte-requires
 byte-requires c κs = search needs
 
--- src/lib.rt:142:30
 word-requires : tie.Need-word-requires
 word-requires c κs = search needs
 
--- src/lib.rt:152:28
 byte-requires-2 : tie.Need-byte-requires-2
 byte-requires-2 c κs = search needs
 
--- src/lib.rt:153:30
 word-requires-2 : tie.Need-word-requires-2
 word-requires-2 c κs = search needs
 
--- src/lib.rt:154:28
 word-requires-3 : tie.Need-word-requires-3
 word-requires-3 c κs = search needs
 
--- src/lib.rt:164:27
 half-requires : tie.Need-half-requires
 half-requires c κs = search needs
 
--- src/lib.rt:174:27
 half-requires-2 : tie.Need-half-requires-2
 half-requires-2 c κs = search needs
 
--- src/lib.rt:175:28
 byte-requires-3 : tie.Need-byte-requires-3
 byte-requires-3 c κs = search needs
 
--- src/lib.rt:185:29
 byte-requires-4 : tie.Need-byte-requires-4
 byte-requires-4 c κs = search needs
 
--- src/lib.rt:186:28
 byte-requires-5 : tie.Need-byte-requires-5
 byte-requires-5 c κs = search needs
 
--- src/lib.rt:187:30
 word-requires-4 : tie.Need-word-requires-4
 word-requires-4 c κs = search needs
 
--- src/lib.rt:188:27
 word-requires-5 : tie.Need-word-requires-5
 word-requires-5 c κs = search needs
 
--- src/lib.rt:197:23
 boundary-requires : tie.Need-boundary-requires
 boundary-requires c κs = search needs
 
--- src/lib.rt:118:1
 returns : tie.Need-returns
 unfolding decoded decodedBy
 returns c = rw (c .before .match .keys1) (simp (eq-eqb _ _ (c .if1 .taken)))
 
--- src/lib.rt:118:1
 returns-2 : tie.Need-returns-2
 unfolding decoded decodedBy
 returns-2 c = rw (c .before .match .keys1) (simp (ne-eqb _ _ (c .if1 .left)))
 
--- src/lib.rt:118:1
 returns-3 : tie.Need-returns-3
 unfolding decoded decodedBy
 returns-3 c = rw (c .before .before .match .keys2) (simp (eq-eqb _ _ (c .before .if2 .taken), (c .registers .ensures)))
 
--- src/lib.rt:118:1
 returns-4 : tie.Need-returns-4
 unfolding decoded decodedBy
 returns-4 c = rw (c .before .match .keys2) (simp (ne-eqb _ _ (c .if2 .left)))
 
--- src/lib.rt:118:1
 returns-5 : tie.Need-returns-5
 unfolding decoded decodedBy
 returns-5 c = rw (c .before .before .before .match .keys3) (simp (eq-eqb _ _ (c .before .before .if3 .taken), (c .before .byte .ensures), (c .word .ensures)))
 
--- src/lib.rt:118:1
 returns-6 : tie.Need-returns-6
 unfolding decoded decodedBy
 returns-6 c = rw (c .before .match .keys3) (simp (ne-eqb _ _ (c .if3 .left)))
 
--- src/lib.rt:118:1
 returns-7 : tie.Need-returns-7
 unfolding decoded decodedBy
 returns-7 c = rw (c .before .before .before .before .match .keys4) (simp (eq-eqb _ _ (c .before .before .before .if4 .taken), (c .before .before .byte2 .ensures), (c .before .word2 .ensures), (c .word3 .ensures)))
 
--- src/lib.rt:118:1
 returns-8 : tie.Need-returns-8
 unfolding decoded decodedBy
 returns-8 c = rw (c .before .match .keys4) (simp (ne-eqb _ _ (c .if4 .left)))
 
--- src/lib.rt:118:1
 returns-9 : tie.Need-returns-9
 unfolding decoded decodedBy
 returns-9 c = rw (c .before .before .match .keys5) (simp (eq-eqb _ _ (c .before .if5 .taken), (c .half .ensures)))
 
--- src/lib.rt:118:1
 returns-10 : tie.Need-returns-10
 unfolding decoded decodedBy
 returns-10 c = rw (c .before .match .keys5) (simp (ne-eqb _ _ (c .if5 .left)))
 
--- src/lib.rt:118:1
 returns-11 : tie.Need-returns-11
 unfolding decoded decodedBy
 returns-11 c = rw (c .before .before .before .match .keys6) (simp (eq-eqb _ _ (c .before .before .if6 .taken), (c .before .half2 .ensures), (c .byte3 .ensures)))
 
--- src/lib.rt:118:1
 returns-12 : tie.Need-returns-12
 unfolding decoded decodedBy
 returns-12 c = rw (c .before .match .keys6) (simp (ne-eqb _ _ (c .if6 .left)))
 
--- src/lib.rt:118:1
 returns-13 : tie.Need-returns-13
 unfolding decoded decodedBy
 returns-13 c = rw (c .before .before .before .before .before .match .keys7) (simp (eq-eqb _ _ (c .before .before .before .before .if7 .taken), (c .before .before .before .byte4 .ensures), (c .before .before .byte5 .ensures), (c .before .word4 .ensures), (c .word5 .ensures)))
 
--- src/lib.rt:118:1
 returns-14 : tie.Need-returns-14
 unfolding decoded decodedBy
 returns-14 c = rw (c .before .match .keys7) (simp (ne-eqb _ _ (c .if7 .left)))
 
--- src/lib.rt:118:1
 returns-15 : tie.Need-returns-15
 unfolding decoded decodedBy
 returns-15 c = rw (c .before .before .match .keys8) (simp (eq-eqb _ _ (c .before .if8 .taken), (c .boundary .ensures)))
 
--- src/lib.rt:118:1
 returns-16 : tie.Need-returns-16
 unfolding decoded decodedBy
 returns-16 c = rw (c .before .match .keys8) (simp (ne-eqb _ _ (c .if8 .left)))
 
--- src/lib.rt:118:1
 returns-17 : tie.Need-returns-17
 unfolding decoded decodedBy
 returns-17 c = rw (c .before .match .keys9) (simp (eq-eqb _ _ (c .if9 .taken)))
 
--- src/lib.rt:118:1
 returns-18 : tie.Need-returns-18
 unfolding decoded decodedBy
 returns-18 c = rw (c .before .match .keys9) (simp (ne-eqb _ _ (c .if9 .left)))
 
--- src/lib.rt:118:1
 returns-19 : tie.Need-returns-19
 unfolding decoded decodedBy
 returns-19 c = rw (c .before .match .keys10) (simp (eq-eqb _ _ (c .if10 .taken)))
 
--- src/lib.rt:118:1
 returns-20 : tie.Need-returns-20
 unfolding decoded decodedBy
 returns-20 c = rw (c .before .match .keys10) (simp (ne-eqb _ _ (c .if10 .left)))
 
--- src/lib.rt:118:1
 returns-21 : tie.Need-returns-21
 unfolding decoded decodedBy
 returns-21 c = simp (ne-eqb _ _ (c .match .rest .0 .0 .0 .0 .0 .0 .0 .0 .0 .1), ne-eqb _ _ (c .match .rest .0 .0 .0 .0 .0 .0 .0 .0 .1), ne-eqb _ _ (c .match .rest .0 .0 .0 .0 .0 .0 .0 .1), ne-eqb _ _ (c .match .rest .0 .0 .0 .0 .0 .0 .1), ne-eqb _ _ (c .match .rest .0 .0 .0 .0 .0 .1), ne-eqb _ _ (c .match .rest .0 .0 .0 .0 .1), ne-eqb _ _ (c .match .rest .0 .0 .0 .1), ne-eqb _ _ (c .match .rest .0 .0 .1), ne-eqb _ _ (c .match .rest .0 .1), ne-eqb _ _ (c .match .rest .1))

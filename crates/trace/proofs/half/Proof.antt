@@ -4,40 +4,28 @@ use Rattle.trace.proofs.Fields.{field-add}
 use borrow.Author.Needs.{needs}
 use Rattle.trace.proofs.half.Statement.{statement}
 use Rattle.trace.proofs.half.Tie as tie
-use Rattle.trace.proofs.half.Reads as reads
-use Rattle.trace.proofs.half.Lts as lts
-use Rattle.trace.proofs.byte.Reads as byte-reads
-use Rattle.trace.proofs.wide.Reads as wide-reads
 
--- src/lib.rt:48:10
 byte-requires : tie.Need-byte-requires
 byte-requires c κs = search needs
 
--- src/lib.rt:48:5
 wide-requires : tie.Need-wide-requires
 wide-requires c κs = search needs
 
--- src/lib.rt:48:44
 add-byte : tie.Need-add-byte
 add-byte c = search needs
 
--- src/lib.rt:48:36
 byte-requires-2 : tie.Need-byte-requires-2
 byte-requires-2 c κs = search needs
 
--- src/lib.rt:48:31
 wide-requires-2 : tie.Need-wide-requires-2
 wide-requires-2 c κs = search needs
 
--- src/lib.rt:48:25
 mul-result : tie.Need-mul-result
 mul-result c = search needs
 
--- src/lib.rt:48:5
 add-result : tie.Need-add-result
 add-result c = search needs
 
--- src/lib.rt:44:1
 returns : tie.Need-returns
 returns c = omega (arith, field-add (now (c .before .before .before .before .before .args .s)) (c .before .before .before .before .before .args .at) 1 1)
 

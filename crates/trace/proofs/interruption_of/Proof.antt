@@ -5,40 +5,31 @@ use lib.ListN.{List·getD-eq-default}
 use Rattle.trace.specs.Trace.{interruptions, interruptionOf}
 use Rattle.trace.proofs.interruption_of.Statement.{statement}
 use Rattle.trace.proofs.interruption_of.Tie as tie
-use Rattle.trace.proofs.interruption_of.Reads as reads
-use Rattle.trace.proofs.interruption_of.Lts as lts
 
--- src/lib.rt:66:1
 returns : tie.Need-returns
 unfolding interruptionOf
 returns c = rw (c .match .keys1)
 
--- src/lib.rt:66:1
 returns-2 : tie.Need-returns-2
 unfolding interruptionOf
 returns-2 c = rw (c .match .keys2)
 
--- src/lib.rt:66:1
 returns-3 : tie.Need-returns-3
 unfolding interruptionOf
 returns-3 c = rw (c .match .keys3)
 
--- src/lib.rt:66:1
 returns-4 : tie.Need-returns-4
 unfolding interruptionOf
 returns-4 c = rw (c .match .keys4)
 
--- src/lib.rt:66:1
 returns-5 : tie.Need-returns-5
 unfolding interruptionOf
 returns-5 c = rw (c .match .keys5)
 
--- src/lib.rt:66:1
 returns-6 : tie.Need-returns-6
 unfolding interruptionOf
 returns-6 c = rw (c .match .keys6)
 
--- src/lib.rt:66:1
 returns-7 : tie.Need-returns-7
 unfolding interruptionOf
 returns-7 c = rw (c .match .keys7)
@@ -46,7 +37,6 @@ returns-7 c = rw (c .match .keys7)
 past : (n k : ℕ) → k ≤ n → (n ≡ k → ⊥) → k + 1 ≤ n
 past n k h e = omega arith
 
--- src/lib.rt:66:1
 returns-8 : tie.Need-returns-8
 unfolding interruptionOf
 returns-8 c =

@@ -4,40 +4,28 @@ use Rattle.trace.proofs.Fields.{field-add}
 use borrow.Author.Needs.{needs}
 use Rattle.trace.proofs.word.Statement.{statement}
 use Rattle.trace.proofs.word.Tie as tie
-use Rattle.trace.proofs.word.Reads as reads
-use Rattle.trace.proofs.word.Lts as lts
-use Rattle.trace.proofs.half.Reads as half-reads
-use Rattle.trace.proofs.wider.Reads as wider-reads
 
--- src/lib.rt:55:11
 half-requires : tie.Need-half-requires
 half-requires c κs = search needs
 
--- src/lib.rt:55:5
 wider-requires : tie.Need-wider-requires
 wider-requires c κs = search needs
 
--- src/lib.rt:55:48
 add-half : tie.Need-add-half
 add-half c = search needs
 
--- src/lib.rt:55:40
 half-requires-2 : tie.Need-half-requires-2
 half-requires-2 c κs = search needs
 
--- src/lib.rt:55:34
 wider-requires-2 : tie.Need-wider-requires-2
 wider-requires-2 c κs = search needs
 
--- src/lib.rt:55:26
 mul-result : tie.Need-mul-result
 mul-result c = search needs
 
--- src/lib.rt:55:5
 add-result : tie.Need-add-result
 add-result c = search needs
 
--- src/lib.rt:51:1
 returns : tie.Need-returns
 returns c = omega (arith, field-add (now (c .before .before .before .before .before .args .s)) (c .before .before .before .before .before .args .at) 2 2)
 
