@@ -1,0 +1,84 @@
+use lines::Reason;
+use machine::Machine;
+use trace::Found;
+ghost use Rattle.memory.specs.Memory.{memories};
+ghost use Rattle.player.specs.Player.{held, playing, Plays, Replays};
+
+const RECORD_LIMIT: usize = 10000;
+
+pub struct Played {
+    pub machine: Machine,
+    pub count: usize,
+    pub reason: Reason,
+}
+
+// Plays a trace from its start. The numbers and the values of the answers go to the two lists, as many as there were records.
+pub fn play(
+    trace: &[u8],
+    start: Machine,
+    main: &mut [u8],
+    management: &mut [u8],
+    numbers: &mut [u8; 10000],
+    values: &mut [u32; 10000],
+) -> Played
+    ensures { λ r. ⌜ Plays (held (now (trace .entry)))
+        (playing start (memories (now (main .entry)) (now (management .entry))) (now (trace .entry)))
+        r (memories (now (main .exit)) (now (management .exit)))
+        (now (numbers .entry)) (now (numbers .exit)) (now (values .entry)) (now (values .exit)) ⌝ }
+{
+    let mut machine = start;
+    let mut place: usize = 0;
+    let mut count: usize = 0;
+    let reason = loop {
+        if trace.len() <= place {
+            break Reason::End;
+        }
+        if RECORD_LIMIT <= count {
+            break Reason::Limit;
+        }
+        match trace::record_at(trace, place) {
+            Found::Record { step, next } => {
+                let stepped = machine.step(main, management, step);
+                let answer = stepped.answer;
+                numbers[count] = answer.number();
+                values[count] = answer.value();
+                machine = stepped.machine;
+                place = next;
+                count += 1;
+            }
+            Found::End => {
+                break Reason::End;
+            }
+            Found::Torn => {
+                break Reason::Torn;
+            }
+            Found::Bad => {
+                break Reason::Bad;
+            }
+        }
+    };
+    Played {
+        machine,
+        count,
+        reason,
+    }
+}
+
+// Plays a trace and writes its text. The result is the text's size.
+pub fn replay(
+    trace: &[u8],
+    start: Machine,
+    main: &mut [u8],
+    management: &mut [u8],
+    out: &mut [u8; 130006],
+) -> usize
+    ensures { λ r. ⌜ Replays (held (now (trace .entry)))
+        (playing start (memories (now (main .entry)) (now (management .entry))) (now (trace .entry)))
+        r (memories (now (main .exit)) (now (management .exit))) (now (out .entry)) (now (out .exit)) ⌝ }
+{
+    let mut numbers = [0u8; 10000];
+    let mut values = [0u32; 10000];
+    let played = play(trace, start, main, management, &mut numbers, &mut values);
+    let reason = played.reason;
+    lines::write(&numbers, &values, played.count, reason, out)
+}
