@@ -5,7 +5,7 @@ ghost use Rattle.steps.specs.Steps.{isWidth, malformed};
 ghost use Rattle.machine.specs.Machines.{withRegisters, withHalted, withLatched, withSegments, segmentIn, withSegment, segment, resetMachine};
 ghost use Rattle.machine.specs.Outcomes.{gives, ends, manages};
 ghost use Rattle.machine.specs.Service.{enteredMachine, entry, entryAtBoundary, entryBySmint, boundary, resume, permitted};
-ghost use Rattle.machine.specs.Steps.{malformedOn, window, dataRead, dataWrite, ported, valid, advanced, saved, restored, opcode, performed, stepped};
+ghost use Rattle.machine.specs.Steps.{malformedOn, programWhileHalted, window, dataRead, dataWrite, ported, valid, advanced, saved, restored, opcode, performed, stepped};
 use config::Accessed;
 use config::Config;
 use config::Settings;
@@ -539,6 +539,13 @@ impl Machine {
         if self.halted { s.interrupts() } else { false }
     }
 
+    // Whether the step is one that this machine refuses while halted.
+    fn refuses_while_halted(self, s: Step) -> bool
+        ensures { λ r. ⌜ r ≡ programWhileHalted self s ⌝ }
+    {
+        if self.halted { s.is_program() } else { false }
+    }
+
     // One step. Refusals are tested in the order of their numbers.
     pub fn step(self, main: &mut [u8], management: &mut [u8], s: Step) -> Stepped
         ensures { λ r. ⌜ ends r (memories (now (main .exit)) (now (management .exit)))
@@ -553,11 +560,8 @@ impl Machine {
         if self.finds_malformed(s) {
             return self.answers(Answer::Malformed);
         }
-        if self.halted {
-            if s.is_program() {
-                return self.answers(Answer::WhileHalted);
-            }
-            return self.perform(main, management, s);
+        if self.refuses_while_halted(s) {
+            return self.answers(Answer::WhileHalted);
         }
         self.perform(main, management, s)
     }

@@ -9,26 +9,20 @@ use Rattle.export.proofs.reason_number.Reads as reason-number-reads
 use Rattle.machine.proofs.reset.Reads as reset-reads
 use Rattle.player.proofs.play.Reads as play-reads
 
-
 reset-requires : tie.Need-reset-requires
 reset-requires c κs = search needs
-
 
 play-requires : tie.Need-play-requires
 play-requires c κs = search needs
 
-
 reason-number-requires : tie.Need-reason-number-requires
 reason-number-requires c κs = search needs
-
 
 same-length : tie.Need-same-length
 same-length c = search needs
 
-
 same-length-2 : tie.Need-same-length-2
 same-length-2 c = search needs
-
 
 returns : tie.Need-returns
 returns c = let e = rw ((c .before .before .before .before .before .before .before .before .before .before .reset .ensures)) at ((c .before .before .before .before .before .play .ensures)) in record {
