@@ -6,7 +6,7 @@ use native.Mathlib.Nat.{add-zero, not-suc-le-zero}
 use native.Mathlib.Numerals.{add-one}
 use native.Mathlib.Omega.{arith}
 use lib.ListN.{length, getD, take, drop, set, length-append, drop-of-length-le}
-use lib.Seq.{sets, set-comm, drop-cons}
+use lib.Seq.{sets, sets-eq, length-sets, take-at, set-comm, drop-cons}
 use Rattle.lines.specs.Lines.{space, newline, digitOf, decimalOf, hexOf, lineOf}
 use Rattle.lines.specs.Stores.{linesFor, Stored, Written}
 use Rattle.lines.proofs.Digits.{one-digit, two-digits, three-digits, hex-length}
@@ -111,5 +111,14 @@ pub no-line : (a : List ℕ) → Stored (linesFor [] []) 0 0 a a
 unfolding linesFor
 no-line a = record { ends = refl; stands = refl }
 
-pub written : {text a b : List ℕ} {r : ℕ} → Stored text 0 r a b → r ≤ 130006 → Written text r a b
-written s h = record { sized = omega (arith, s .ends); stands = s .stands; fits = h }
+-- a list that was stored at the start of another stands there
+pub front : (l xs : List ℕ) (n : ℕ) → n ≡ length xs → n ≤ length l → take n (sets l 0 xs) ≡ xs
+front l xs n e h =
+    let k : 0 + length xs ≤ length l = omega arith in
+    ap (take n) (sets-eq xs l 0 k) ∙ take-at xs (drop (0 + length xs) l) n (sym e)
+
+pub written : {text a b : List ℕ} {r : ℕ} → Stored text 0 r a b → r ≤ length b → Written text r a b
+written {text} {a} {b} {r} s h =
+    let n : r ≡ length text = omega (arith, s .ends) in
+    let k : r ≤ length a = omega (arith, ap length (s .stands), length-sets a 0 text) in
+    record { sized = n; fits = h; first = ap (take r) (s .stands) ∙ front a text r n k; stands = s .stands }

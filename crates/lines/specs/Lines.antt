@@ -47,3 +47,7 @@ wordOf Bad = 0x62 ∷ 0x61 ∷ 0x64 ∷ newline ∷ []
 -- the lines; "then the reason's word and a newline"
 abbrev pub textOf : List Answer → Reason → List ℕ
 textOf answers reason = linesOf answers ++ wordOf reason
+
+-- "it prints "long" and a newline, nothing else"
+abbrev pub longText : List ℕ
+longText = 0x6c ∷ 0x6f ∷ 0x6e ∷ 0x67 ∷ newline ∷ []

@@ -23,8 +23,9 @@ pub record Stored (text : List ℕ) (place end : ℕ) (before after : List ℕ) 
   pub ends : end ≡ place + length text
   pub stands : after ≡ sets before place text
 
--- the text stands at the buffer's start, and all of it is there
+-- the text fills the first bytes of the buffer, and the others are as before
 pub record Written (text : List ℕ) (size : ℕ) (before after : List ℕ) : Type 0 where
   pub sized : size ≡ length text
+  pub fits : size ≤ length after
+  pub first : take size after ≡ text
   pub stands : after ≡ sets before 0 text
-  pub fits : size ≤ 130006

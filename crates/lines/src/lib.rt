@@ -1,7 +1,7 @@
 ghost use mathlib.Core.Path.{_≡_};
 ghost use Prim.Native.Nat.{_+_, _*_, _<_, _≤_, min};
 ghost use lib.ListN.{length, take};
-ghost use Rattle.lines.specs.Lines.{digitOf, decimalOf, hexOf, lineOf, wordOf};
+ghost use Rattle.lines.specs.Lines.{digitOf, decimalOf, hexOf, lineOf, wordOf, longText};
 ghost use Rattle.lines.specs.Stores.{linesFor, textFor, Stored, Written};
 
 // Why the player stopped.
@@ -124,4 +124,11 @@ pub fn write(
 {
     let at = put_lines(out, numbers, values, at_most_10000(count));
     put_word(out, at, reason)
+}
+
+// The text for an input that is too long.
+pub fn write_long(out: &mut [u8; 130006]) -> usize
+    ensures { λ r. ⌜ Written longText r (now (out .entry)) (now (out .exit)) ⌝ }
+{
+    put_bytes(out, 0, b"long\n")
 }

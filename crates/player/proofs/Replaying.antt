@@ -1,8 +1,9 @@
 -- The text of what the two lists hold after a play is the text of the run's answers. Assumes nothing.
 use mathlib.Core.Path.{_≡_, refl, sym, ap, _∙_}
 use mathlib.Core.List.{List, [], _∷_, map}
-use Prim.Native.Nat.{ℕ, zero, suc, _+_, _≤_}
+use Prim.Native.Nat.{ℕ, zero, suc, _+_, _<_, _≤_}
 use native.Mathlib.Omega.{arith}
+use borrow.Author.Tests.{le-leb, lt-leb}
 use lib.ListN.{length, take, drop, replicate, length-replicate, length-map}
 use lib.Seq.{sets, sets-eq, take-at}
 use Rattle.steps.specs.declared.Step.{Step}
@@ -10,14 +11,17 @@ use Rattle.steps.specs.declared.Answer.{Answer}
 use Rattle.steps.specs.Answers.{numberOf, valueOf}
 use Rattle.memory.specs.Memory.{Memories}
 use Rattle.machine.specs.declared.Machine.{Machine}
+use Rattle.machine.specs.Machines.{resetMachine}
 use Rattle.machine.specs.Steps.{run}
 use Rattle.trace.specs.declared.Found.{Found}
 use Rattle.trace.specs.declared.Found.the-variants.{Record, End, Torn, Bad}
 use Rattle.trace.specs.Trace.{foundAt}
-use Rattle.lines.specs.Lines.{textOf}
+use Rattle.lines.specs.Lines.{textOf, longText}
 use Rattle.lines.specs.Stores.{textFor, Written}
+use Rattle.lines.proofs.Storing.{front}
 use Rattle.lines.proofs.Texts.{text-for}
 use Rattle.player.specs.declared.Played.{Played}
+use Rattle.player.specs.Output.{zeroMemories, outputOf}
 use Rattle.player.specs.Player.{Held, heldBy, heldFrom, held, playing, Plays, Replays}
 
 -- a trace holds no more steps than the limit
@@ -37,12 +41,6 @@ pub answered : (m : Machine) (x : Memories) (ss : List Step) → length (run m x
 unfolding run
 answered m x [] = refl
 answered m x (s ∷ ss) = ap suc (answered _ _ ss)
-
--- a list that was stored at the start of another stands there
-front : (l xs : List ℕ) (n : ℕ) → n ≡ length xs → length xs ≤ length l → take n (sets l 0 xs) ≡ xs
-front l xs n e h =
-    let k : 0 + length xs ≤ length l = omega arith in
-    ap (take n) (sets-eq xs l 0 k) ∙ take-at xs (drop (0 + length xs) l) n (sym e)
 
 -- the numbers or the values of the answers
 module _ (f : Answer → ℕ) (answers : List Answer) (l₀ l : List ℕ) (n : ℕ) where
@@ -67,3 +65,14 @@ module _ (l : List ℕ) (m : Machine) (x x′ : Memories) (p : Played) (numbers 
       (stored valueOf (r .answers) l₀ values (p .count) k (omega arith) (e .values-are))
       ∙ ap (textOf (r .answers)) (e .reason-is) in
       record { memory-is = e .memory-is; prints = rw t at w }
+
+-- the program's output, from the test that the code makes
+module _ (l : List ℕ) {size : ℕ} {out₀ out : List ℕ} where
+  pub prints-long : 65536 < length l → Written longText size out₀ out → Written (outputOf l) size out₀ out
+  unfolding outputOf
+  prints-long h w = rw (lt-leb _ _ h) w
+
+  pub prints-text : {m : Machine} {x : Memories} → length l ≤ 65536 → m ≡ resetMachine
+      → Replays (held l) (playing m zeroMemories l) size x out₀ out → Written (outputOf l) size out₀ out
+  unfolding outputOf
+  prints-text h e r = rw (le-leb _ _ h, ← e) (r .prints)

@@ -2,6 +2,8 @@ use lines::Reason;
 use machine::Machine;
 use trace::Found;
 ghost use Rattle.memory.specs.Memory.{memories};
+ghost use Rattle.lines.specs.Stores.{Written};
+ghost use Rattle.player.specs.Output.{outputOf};
 ghost use Rattle.player.specs.Player.{held, playing, Plays, Replays};
 
 const RECORD_LIMIT: usize = 10000;
@@ -81,4 +83,16 @@ pub fn replay(
     let played = play(trace, start, main, management, &mut numbers, &mut values);
     let reason = played.reason;
     lines::write(&numbers, &values, played.count, reason, out)
+}
+
+// All that the program prints for an input. The result is its size.
+pub fn output(input: &[u8], out: &mut [u8; 130006]) -> usize
+    ensures { λ r. ⌜ Written (outputOf (now (input .entry))) r (now (out .entry)) (now (out .exit)) ⌝ }
+{
+    if 65536 < input.len() {
+        return lines::write_long(out);
+    }
+    let mut main = [0u8; 65536];
+    let mut management = [0u8; 65536];
+    replay(input, machine::reset(), &mut main, &mut management, out)
 }
