@@ -52,12 +52,14 @@ loop-less : tie.Need-loop-less Inv-loop μ-loop
 loop-less c = search needs
 
 loop-again : tie.Need-loop-again Inv-loop μ-loop
-loop-again c = (
-  search needs,
-  search needs,
-  search needs,
-  left-turn _ _ _ _ 10000 _ _ _ _ _ _ _ (c .before .before .before .before .before .before .before .before .before .before .before .before .before .before .before .before .loop .inv .3) (c .before .before .before .before .before .before .before .before .before .before .before .before .before .before .if2 .left) _ _ (sym (c .before .before .before .before .before .before .before .before .before .before .before .before .before .record-at .ensures) ∙ (c .before .before .before .before .before .before .before .before .before .before .before .step .given .1)) _ _ (c .before .before .before .before .before .before .before .step2 .ensures) _ _ (c .before .before .number .ensures) (c .before .value .ensures),
-)
+loop-again c =
+    let l = c .before .before .before .before .before .before .before .before .before .before .before .before .before .before .before .before .loop in
+    let found = sym (c .before .before .before .before .before .before .before .before .before .before .before .before .before .record-at .ensures) ∙ c .before .before .before .before .before .before .before .before .before .before .before .step .given .1 in (
+      search needs,
+      search needs,
+      search needs,
+      left-turn _ _ _ _ 10000 _ _ _ _ _ _ _ (l .inv .3) (c .before .before .before .before .before .before .before .before .before .before .before .before .before .before .if2 .left) _ _ found _ _ (c .before .before .before .before .before .before .before .step2 .ensures) _ _ (c .before .before .number .ensures) (c .before .value .ensures),
+    )
 
 enum-told : tie.Need-enum-told Inv-loop μ-loop
 enum-told c = search needs
