@@ -1,23 +1,22 @@
 -- What was written is read back. Assumes nothing.
-use mathlib.Core.Path.{_≡_, refl, sym, ap, _∙_}
-use mathlib.Core.Bool.{Bool, true, false, cond}
-use mathlib.Core.List.{List, [], _∷_, _++_, map, append-assoc}
-use Prim.Native.Nat.{ℕ, zero, suc, _+_, _*_, _/_, _%_, _-_, _^_, _≤_, _<_}
-use native.Mathlib.Nat.{div-div-eq-div-mul}
+use mathlib.Core.Path.{_≡_, refl, _∙_}
+use mathlib.Core.Bool.{Bool, true, false}
+use mathlib.Core.List.{List, [], _∷_, _++_, map, flatMap, append-assoc}
+use Prim.Native.Nat.{ℕ, zero, suc, _+_, _*_, _/_, _%_, _≤_, _<_}
 use native.Mathlib.Omega.{arith}
-use lib.ListN.{length, getD, set, take, drop, List·getD-append}
+use lib.ListN.{length, getD, take, drop, List·getD-append}
 use lib.Seq.{sets, sets-eq, getD-append-add, length-take-le}
 use lib.Dec.{eqb}
+use Rattle.fields.specs.Fields.{fieldAt, bytesOf}
+use Rattle.fields.proofs.Laws.{field-same, length-bytesOf, number-bytes}
 use Rattle.header.specs.declared.Level.{Level}
 use Rattle.header.specs.declared.Level.the-variants.{Zero, One, Two, Three}
-use Rattle.header.specs.declared.Registers.{Registers}
 use Rattle.header.specs.declared.Saved.{Saved}
-use Rattle.header.specs.Words.{number, wordBytes, bytesOf, wordAt}
-use Rattle.header.specs.Header.{Word, below, holds, upward, bit, levelNumber, levelOf, headerBytes, headed, wordIn, resumed, withEip}
-use Rattle.header.specs.ReadBack.{RegistersFit, SavedFits, WordsReadBack, RegistersReadBack}
+use Rattle.header.specs.Header.{Word, holds, upward, bit, levelNumber, levelOf, wordsBytes, headerBytes, headed, wordIn, resumed}
+use Rattle.header.specs.ReadBack.{SavedFits, WordsReadBack, RegistersReadBack}
 
-pub length-bytes : (ws : List ℕ) → length (bytesOf ws) ≡ 4 * length ws
-unfolding bytesOf wordBytes
+pub length-bytes : (ws : List ℕ) → length (wordsBytes ws) ≡ 4 * length ws
+unfolding flatMap bytesOf
 length-bytes [] = refl
 length-bytes (w ∷ ws) = let e = length-bytes ws in omega arith
 
@@ -28,41 +27,28 @@ stored-byte g bs at i h k =
     let e : at + i ≡ length (take at g) + i = omega arith in
     rw (sets-eq bs g at h, append-assoc, e) (getD-append-add (take at g) (bs ++ drop (at + length bs) g) i 0 ∙ List·getD-append bs (drop (at + length bs) g) 0 i k)
 
--- a word is the number of its four bytes
-whole : (w : ℕ) → w < 4294967296 → number (wordBytes w) ≡ w
-unfolding wordBytes
-whole w f =
-    let d : (x : ℕ) → x % 256 + 256 * (x / 256) ≡ x = λ x. omega arith in
-    let a : w / 65536 ≡ w / 256 / 256 = sym (div-div-eq-div-mul w 256 256) in
-    let b : w / 16777216 ≡ w / 256 / 256 / 256 = sym (div-div-eq-div-mul w 65536 256) ∙ ap (λ (x : ℕ). x / 256) a in
-    let top : w / 256 / 256 / 256 % 256 + 256 * 0 ≡ w / 256 / 256 / 256 = omega arith in
-    rw (b, a, top, d (w / 256 / 256), d (w / 256)) (d w)
-
 -- the words that the bytes hold
-held : (ws : List ℕ) (k : ℕ) → k < length ws → getD ws k 0 < 4294967296
-    → number (getD (bytesOf ws) (4 * k) 0 ∷ getD (bytesOf ws) (4 * k + 1) 0 ∷ getD (bytesOf ws) (4 * k + 2) 0 ∷ getD (bytesOf ws) (4 * k + 3) 0 ∷ []) ≡ getD ws k 0
-unfolding bytesOf wordBytes
+held : (ws : List ℕ) (k : ℕ) → k < length ws → getD ws k 0 < 4294967296 → fieldAt (wordsBytes ws) (4 * k) 4 ≡ getD ws k 0
+unfolding flatMap
 held [] k h f = absurd (omega arith)
-held (w ∷ ws) zero h f = whole w f
+held (w ∷ ws) zero h f = number-bytes 4 w (wordsBytes ws) f
 held (w ∷ ws) (suc k) h f =
-    let e : 4 * suc k ≡ suc (suc (suc (suc (4 * k)))) = omega arith in
-    let e1 : 4 * suc k + 1 ≡ suc (suc (suc (suc (4 * k + 1)))) = omega arith in
-    let e2 : 4 * suc k + 2 ≡ suc (suc (suc (suc (4 * k + 2)))) = omega arith in
-    let e3 : 4 * suc k + 3 ≡ suc (suc (suc (suc (4 * k + 3)))) = omega arith in
-    rw (e1, e2, e3, e) (held ws k (omega arith) f)
+    field-same (bytesOf 4 w ++ wordsBytes ws) (wordsBytes ws) (4 * suc k) (4 * k) 4
+    (λ i m.
+    let e : 4 * suc k + i ≡ length (bytesOf 4 w) + (4 * k + i) = omega (arith, length-bytesOf 4 w) in
+    rw e (getD-append-add (bytesOf 4 w) (wordsBytes ws) (4 * k + i) 0))
+    ∙ held ws k (omega arith) f
 
 -- a word of a list of words that was stored
-pub stored-word-at : (g ws : List ℕ) (at k : ℕ) → at + 4 * length ws ≤ length g → k < length ws → getD ws k 0 < 4294967296
-    → wordAt (sets g at (bytesOf ws)) (at + 4 * k) ≡ getD ws k 0
-unfolding wordAt
-stored-word-at g ws at k h l f =
+stored-word : (g ws : List ℕ) (at k : ℕ) → at + 4 * length ws ≤ length g → k < length ws → getD ws k 0 < 4294967296
+    → fieldAt (sets g at (wordsBytes ws)) (at + 4 * k) 4 ≡ getD ws k 0
+stored-word g ws at k h l f =
     let b = length-bytes ws in
-    let e1 : at + 4 * k + 1 ≡ at + (4 * k + 1) = omega arith in
-    let e2 : at + 4 * k + 2 ≡ at + (4 * k + 2) = omega arith in
-    let e3 : at + 4 * k + 3 ≡ at + (4 * k + 3) = omega arith in
-    let s : (j : ℕ) → j < 4 → getD (sets g at (bytesOf ws)) (at + (4 * k + j)) 0 ≡ getD (bytesOf ws) (4 * k + j) 0
-    = λ j m. stored-byte g (bytesOf ws) at (4 * k + j) (omega arith) (omega arith) in
-    rw (e1, e2, e3, stored-byte g (bytesOf ws) at (4 * k) (omega arith) (omega arith), s 1 (omega arith), s 2 (omega arith), s 3 (omega arith)) (held ws k l f)
+    field-same (sets g at (wordsBytes ws)) (wordsBytes ws) (at + 4 * k) (4 * k) 4
+    (λ i m.
+    let e : at + 4 * k + i ≡ at + (4 * k + i) = omega arith in
+    rw e (stored-byte g (wordsBytes ws) at (4 * k + i) (omega arith) (omega arith)))
+    ∙ held ws k l f
 
 bit-small : (b : Bool) → bit b < 2
 bit-small true = omega arith
@@ -90,9 +76,9 @@ module _ (s : Saved) (f : SavedFits s) where
   fits Word.StringIndex = f .index
 
   module _ (g : List ℕ) (at : ℕ) (h : at + 48 ≤ length g) where
-    back-at : (k : ℕ) (w : Word) → k < 12 → getD (map (holds s) upward) k 0 ≡ holds s w → wordAt (headed g at s) (at + 4 * k) ≡ holds s w
+    back-at : (k : ℕ) (w : Word) → k < 12 → getD (map (holds s) upward) k 0 ≡ holds s w → fieldAt (headed g at s) (at + 4 * k) 4 ≡ holds s w
     unfolding headed headerBytes
-    back-at k w l e = let i : holds s w < 4294967296 = fits w in stored-word-at g (map (holds s) upward) at k h l (omega (arith, e)) ∙ e
+    back-at k w l e = let i : holds s w < 4294967296 = fits w in stored-word g (map (holds s) upward) at k h l (omega (arith, e)) ∙ e
 
     back : (w : Word) → wordIn (headed g at s) at w ≡ holds s w
     back Word.Dr7 = back-at 11 Word.Dr7 (omega arith) refl

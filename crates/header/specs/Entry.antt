@@ -3,10 +3,10 @@ use Prim.Native.Nat.{ℕ, _*_, _/_, _%_}
 use mathlib.Core.Bool.{true}
 use mathlib.Core.List.{[], _∷_}
 use lib.Bits.{bitAnd}
+use Rattle.fields.specs.Fields.{numberBy, number}
 use Rattle.memory.specs.declared.Segment.{Segment}
 use Rattle.header.specs.declared.Level.the-variants.{Zero}
 use Rattle.header.specs.declared.Registers.{Registers}
-use Rattle.header.specs.Words.{number}
 
 -- "CR0 with bits 0, 2, 3 and 31 cleared"
 unfoldable pub entryCr0 : ℕ → ℕ
@@ -14,6 +14,7 @@ entryCr0 c = bitAnd c 0x7ffffff2
 
 -- "CS gets base bits 19-12 as its high byte and 00h low; descriptor FF FF b0 b1 b2 93 8F b3, with b0 to b3 the base's bytes, low first."
 unfoldable pub entryCs : ℕ → Segment
+unfolding numberBy
 entryCs base = record {
   selector = 256 * (base / 4096 % 256);
   descriptor =

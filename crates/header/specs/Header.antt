@@ -1,10 +1,10 @@
 -- 01, "Forty-eight bytes below the top": the twelve words of the header, and what RSM reads back from them.
 use Prim.Native.Nat.{ℕ, _+_, _*_, _/_, _%_, _-_}
 use mathlib.Core.Bool.{Bool, true, false, cond}
-use mathlib.Core.List.{List, [], _∷_, map}
+use mathlib.Core.List.{List, [], _∷_, map, flatMap}
 use lib.Dec.{eqb}
 use lib.Seq.{sets}
-use Rattle.memory.specs.declared.Segment.{Segment}
+use Rattle.fields.specs.Fields.{fieldAt, bytesOf}
 use Rattle.steps.specs.declared.Transfer.{Transfer}
 use Rattle.steps.specs.declared.Interruption.{Interruption}
 use Rattle.steps.specs.declared.Interruption.the-variants.{None, Input, Output, StringInput, StringOutput, RepInput, RepOutput}
@@ -13,7 +13,6 @@ use Rattle.header.specs.declared.Level.the-variants.{Zero, One, Two, Thr
 use Rattle.header.specs.declared.Registers.{Registers}
 use Rattle.header.specs.declared.Trap.{Trap}
 use Rattle.header.specs.declared.Saved.{Saved}
-use Rattle.header.specs.Words.{bytesOf, wordAt}
 
 -- "the privilege level 0 to 3"
 abbrev pub levelNumber : Level → ℕ
@@ -94,9 +93,13 @@ upward =
     StringIndex ∷ OutputData ∷ PortSize ∷ Flags ∷ DescriptorLow ∷ DescriptorHigh
     ∷ CsLevel ∷ NextIp ∷ CurrentIp ∷ Cr0 ∷ Eflags ∷ Dr7 ∷ []
 
+-- the bytes of words, one word after the other
+abbrev pub wordsBytes : List ℕ → List ℕ
+wordsBytes ws = flatMap (bytesOf 4) ws
+
 -- the 48 bytes
 unfoldable pub headerBytes : Saved → List ℕ
-headerBytes s = bytesOf (map (holds s) upward)
+headerBytes s = wordsBytes (map (holds s) upward)
 
 -- management memory with the 48 bytes in it, the first at a place
 unfoldable pub headed : List ℕ → ℕ → Saved → List ℕ
@@ -104,7 +107,7 @@ headed g at s = sets g at (headerBytes s)
 
 -- a word of the header whose first byte is at a place
 abbrev pub wordIn : List ℕ → ℕ → Word → ℕ
-wordIn g at w = wordAt g (at + (48 - below w))
+wordIn g at w = fieldAt g (at + (48 - below w)) 4
 
 -- "RSM loads DR7, EFLAGS, CR0, CS, level, C and EIP (from next IP)."
 unfoldable pub resumed : List ℕ → ℕ → Registers

@@ -1,4 +1,3 @@
-pub mod Words
 pub mod Header
 pub mod Entry
 pub mod ReadBack

@@ -2,11 +2,10 @@ ghost use mathlib.Core.Path.{_≡_};
 ghost use mathlib.Core.Bool.{true, false};
 ghost use mathlib.Core.List.{map};
 ghost use Prim.Native.Nat.{_+_, _*_, _<_, _≤_};
-ghost use lib.ListN.{length, getD, set};
+ghost use lib.ListN.{length};
 ghost use lib.Seq.{sets};
-ghost use Rattle.header.specs.Words.{wordBytes, bytesOf, wordAt};
-ghost use Rattle.header.specs.Header.{levelNumber, levelOf, sizeBits, portSize, cut, trap, trapOf, bit, holds, upward, headed, resumed};
-ghost use Rattle.header.specs.Entry.{entryCr0, entryCs, entryRegisters};
+ghost use Rattle.header.specs.Header.{levelNumber, levelOf, sizeBits, portSize, cut, trap, trapOf, bit, holds, upward, wordsBytes, headed, resumed};
+ghost use Rattle.header.specs.Entry.{entryCs, entryRegisters};
 use memory::Segment;
 use steps::Interruption;
 use steps::Transfer;
@@ -177,34 +176,14 @@ fn words_of(s: Saved) -> [u32; 12]
     ]
 }
 
-// Stores a byte; past the end, nothing.
-fn put(area: &mut [u8], at: usize, byte: u8)
-    ensures { λ r. ⌜ now (area .exit) ≡ set (now (area .entry)) at byte ⌝ }
-{
-    if at < area.len() {
-        area[at] = byte;
-    }
-}
-
-// Stores a word, little-endian.
-fn put_word(area: &mut [u8], at: usize, word: u32)
-    requires { ⌜ at < 8589934592 ⌝ }
-    ensures { λ r. ⌜ now (area .exit) ≡ sets (now (area .entry)) at (wordBytes word) ⌝ }
-{
-    put(area, at, (word % 256) as u8);
-    put(area, at + 1, (word / 256 % 256) as u8);
-    put(area, at + 2, (word / 65536 % 256) as u8);
-    put(area, at + 3, (word / 16777216 % 256) as u8);
-}
-
 // Stores words, one after the other.
 fn put_words(area: &mut [u8], at: usize, words: &[u32])
     requires { ⌜ (at < 4294967296) × (length (now words) ≤ 12) ⌝ }
-    ensures { λ r. ⌜ now (area .exit) ≡ sets (now (area .entry)) at (bytesOf (now (words .entry))) ⌝ }
+    ensures { λ r. ⌜ now (area .exit) ≡ sets (now (area .entry)) at (wordsBytes (now (words .entry))) ⌝ }
 {
     let mut i = 0;
     while i < words.len() {
-        put_word(area, at + 4 * i, words[i]);
+        fields::store_at(area, at + 4 * i, 4, words[i] as u64);
         i = i + 1;
     }
 }
@@ -217,43 +196,19 @@ pub fn write(management: &mut [u8], at: u32, s: Saved)
     put_words(management, at as usize, &words);
 }
 
-// A byte; past the end, 0.
-fn get(area: &[u8], at: usize) -> u32
-    ensures { λ r. ⌜ (r ≡ getD (now (area .entry)) at 0) × (r < 256) ⌝ }
-{
-    if at < area.len() {
-        return wide(area[at]);
-    }
-    0
-}
-
-fn wide(x: u8) -> u32
-    ensures { λ r. ⌜ (r ≡ x) × (r < 256) ⌝ }
-{
-    x as u32
-}
-
-// The little-endian word at a place.
-fn word_at(area: &[u8], at: usize) -> u32
-    requires { ⌜ at < 8589934592 ⌝ }
-    ensures { λ r. ⌜ r ≡ wordAt (now (area .entry)) at ⌝ }
-{
-    get(area, at) + 256 * (get(area, at + 1) + 256 * (get(area, at + 2) + 256 * get(area, at + 3)))
-}
-
 // The registers that RSM loads from the header at a place of management memory.
 pub fn read(management: &[u8], at: u32) -> Registers
     ensures { λ r. ⌜ r ≡ resumed (now (management .entry)) at ⌝ }
 {
     let at = at as usize;
-    let flags = word_at(management, at + 12);
-    let low = word_at(management, at + 16);
-    let high = word_at(management, at + 20);
-    let selector = word_at(management, at + 24);
-    let eip = word_at(management, at + 28);
-    let cr0 = word_at(management, at + 36);
-    let eflags = word_at(management, at + 40);
-    let dr7 = word_at(management, at + 44);
+    let flags = fields::word(management, at + 12);
+    let low = fields::word(management, at + 16);
+    let high = fields::word(management, at + 20);
+    let selector = fields::word(management, at + 24);
+    let eip = fields::word(management, at + 28);
+    let cr0 = fields::word(management, at + 36);
+    let eflags = fields::word(management, at + 40);
+    let dr7 = fields::word(management, at + 44);
     let cs = Segment {
         selector: (selector % 65536) as u16,
         descriptor: low as u64 + 4294967296 * (high as u64),

@@ -5,9 +5,10 @@ use Prim.Native.Nat.{ℕ, _+_, _-_, _<_, _≤_}
 use native.Mathlib.Omega.{arith}
 use borrow.Author.Tests.{le-leb, lt-leb, lt-ltb, le-ltb}
 use lib.ListN.{length, take, drop}
+use Rattle.fields.specs.Fields.{fieldAt}
 use Rattle.trace.specs.declared.Found.{Found}
 use Rattle.trace.specs.declared.Found.the-variants.{End, Torn, Bad}
-use Rattle.trace.specs.Trace.{fieldAt, decoded, foundAt}
+use Rattle.trace.specs.Trace.{decoded, foundAt}
 
 module _ (l : List ℕ) (at : ℕ) where
   pub found-end : length l ≤ at → End ≡ foundAt l at

@@ -1,9 +1,10 @@
 -- 01, "Trace player": the records of a trace, and what stands at a place of it.
-use Prim.Native.Nat.{ℕ, zero, suc, _+_, _*_, _-_}
+use Prim.Native.Nat.{ℕ, _+_, _-_}
 use mathlib.Core.Bool.{Bool, cond, _||_}
 use mathlib.Core.List.{List, [], _∷_}
 use lib.ListN.{length, getD, take, drop}
 use lib.Dec.{leb, ltb, eqb}
+use Rattle.fields.specs.Fields.{fieldAt}
 use Rattle.steps.specs.declared.Transfer.{Transfer}
 use Rattle.steps.specs.declared.Interruption.{Interruption}
 use Rattle.steps.specs.declared.Interruption.the-variants.{None, Input, Output, StringInput, StringOutput, RepInput, RepOutput}
@@ -11,11 +12,6 @@ use Rattle.steps.specs.declared.Step.{Step}
 use Rattle.steps.specs.declared.Step.the-variants.{Reset, Registers, Read, Write, PortRead, PortWrite, Opcode, Boundary, UnnamedBoundary, Halt, Wake}
 use Rattle.trace.specs.declared.Found.{Found}
 use Rattle.trace.specs.declared.Found.the-variants.{Record, End, Torn, Bad}
-
--- "little-endian": the number in the n bytes at a place
-unfoldable pub fieldAt : List ℕ → ℕ → ℕ → ℕ
-fieldAt l at zero = 0
-fieldAt l at (suc n) = getD l at 0 + 256 * fieldAt l (at + 1) n
 
 -- "A trace record is a little-endian 16-bit length of what follows, a two-byte kind and a body."
 abbrev pub lengthAt : List ℕ → ℕ → ℕ
@@ -51,7 +47,7 @@ interruptionOf code t i = getD (interruptions t i) code None
 abbrev pub transferOf : List ℕ → Transfer
 transferOf b = record { port = fieldAt b 6 2; size = fieldAt b 8 1; value = fieldAt b 9 4 }
 
--- "8 boundary (SMI 1, current 4, interruption 1, port 2, size 1, data 4, index 4)"; "Unused boundary fields are ignored. An
+-- "8 boundary (SMI 1, current 4, interruption 1 .., port 2, size 1, data 4, index 4)"; "Unused boundary fields are ignored. An
 -- interruption code above 6 is answer 2": that boundary is a step of its own, which is malformed.
 unfoldable pub boundaryOf : List ℕ → Step
 boundaryOf b =

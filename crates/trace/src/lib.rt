@@ -3,9 +3,7 @@ use steps::Interruption;
 use steps::Step;
 use steps::Transfer;
 ghost use mathlib.Core.Path.{_≡_};
-ghost use Prim.Native.Nat.{_+_, _≤_};
-ghost use lib.ListN.{length};
-ghost use Rattle.trace.specs.Trace.{fieldAt, interruptionOf, boundaryOf, registersOf, decoded, foundAt};
+ghost use Rattle.trace.specs.Trace.{interruptionOf, boundaryOf, registersOf, decoded, foundAt};
 
 // What stands at a place. A record is its step and the place past it.
 pub enum Found {
@@ -13,59 +11,6 @@ pub enum Found {
     End,
     Torn,
     Bad,
-}
-
-fn wide(x: u8) -> u16
-    ensures { λ r. ⌜ r ≡ x ⌝ }
-{
-    x as u16
-}
-
-fn wider(x: u16) -> u32
-    ensures { λ r. ⌜ r ≡ x ⌝ }
-{
-    x as u32
-}
-
-fn widest(x: u32) -> u64
-    ensures { λ r. ⌜ r ≡ x ⌝ }
-{
-    x as u64
-}
-
-// The fields of one, two, four and eight bytes. Each wider one is two of the one before, so that one law serves them all.
-fn byte(s: &[u8], at: usize) -> u8
-    requires { ⌜ at + 1 ≤ length (now s) ⌝ }
-    ensures { λ r. ⌜ r ≡ fieldAt (now (s .entry)) at 1 ⌝ }
-{
-    s[at]
-}
-
-fn half(s: &[u8], at: usize) -> u16
-    requires { ⌜ at + 2 ≤ length (now s) ⌝ }
-    ensures { λ r. ⌜ r ≡ fieldAt (now (s .entry)) at 2 ⌝ }
-{
-    let low = wide(byte(s, at));
-    let high = wide(byte(s, at + 1));
-    low + 256 * high
-}
-
-fn word(s: &[u8], at: usize) -> u32
-    requires { ⌜ at + 4 ≤ length (now s) ⌝ }
-    ensures { λ r. ⌜ r ≡ fieldAt (now (s .entry)) at 4 ⌝ }
-{
-    let low = wider(half(s, at));
-    let high = wider(half(s, at + 2));
-    low + 65536 * high
-}
-
-fn long(s: &[u8], at: usize) -> u64
-    requires { ⌜ at + 8 ≤ length (now s) ⌝ }
-    ensures { λ r. ⌜ r ≡ fieldAt (now (s .entry)) at 8 ⌝ }
-{
-    let low = widest(word(s, at));
-    let high = widest(word(s, at + 4));
-    low + 4294967296 * high
 }
 
 // The interruption of a code up to 6.
@@ -85,38 +30,36 @@ fn interruption_of(code: u8, output: Transfer, index: u32) -> Interruption
 }
 
 fn boundary(body: &[u8]) -> Step
-    requires { ⌜ 17 ≤ length (now body) ⌝ }
     ensures { λ r. ⌜ r ≡ boundaryOf (now (body .entry)) ⌝ }
 {
-    let code = byte(body, 5);
+    let code = fields::byte(body, 5);
     if 6 < code {
         return Step::UnnamedBoundary;
     }
     let output = Transfer {
-        port: half(body, 6),
-        size: byte(body, 8),
-        value: word(body, 9),
+        port: fields::half(body, 6),
+        size: fields::byte(body, 8),
+        value: fields::word(body, 9),
     };
     Step::Boundary {
-        smi: byte(body, 0),
-        current: word(body, 1),
-        interruption: interruption_of(code, output, word(body, 13)),
+        smi: fields::byte(body, 0),
+        current: fields::word(body, 1),
+        interruption: interruption_of(code, output, fields::word(body, 13)),
     }
 }
 
 fn registers(body: &[u8]) -> Step
-    requires { ⌜ 28 ≤ length (now body) ⌝ }
     ensures { λ r. ⌜ r ≡ registersOf (now (body .entry)) ⌝ }
 {
     Step::Registers {
-        eip: word(body, 0),
-        eflags: word(body, 4),
-        cr0: word(body, 8),
-        dr7: word(body, 12),
-        selector: half(body, 16),
-        descriptor: long(body, 18),
-        level: byte(body, 26),
-        writable: byte(body, 27),
+        eip: fields::word(body, 0),
+        eflags: fields::word(body, 4),
+        cr0: fields::word(body, 8),
+        dr7: fields::word(body, 12),
+        selector: fields::half(body, 16),
+        descriptor: fields::long(body, 18),
+        level: fields::byte(body, 26),
+        writable: fields::byte(body, 27),
     }
 }
 
@@ -144,8 +87,8 @@ fn decode(kind: u16, body: &[u8], next: usize) -> Found
         3 => if body.len() == 5 {
             Found::Record {
                 step: Step::Read {
-                    width: byte(body, 0),
-                    address: word(body, 1),
+                    width: fields::byte(body, 0),
+                    address: fields::word(body, 1),
                 },
                 next,
             }
@@ -155,9 +98,9 @@ fn decode(kind: u16, body: &[u8], next: usize) -> Found
         4 => if body.len() == 9 {
             Found::Record {
                 step: Step::Write {
-                    width: byte(body, 0),
-                    address: word(body, 1),
-                    value: word(body, 5),
+                    width: fields::byte(body, 0),
+                    address: fields::word(body, 1),
+                    value: fields::word(body, 5),
                 },
                 next,
             }
@@ -167,7 +110,7 @@ fn decode(kind: u16, body: &[u8], next: usize) -> Found
         5 => if body.len() == 2 {
             Found::Record {
                 step: Step::PortRead {
-                    port: half(body, 0),
+                    port: fields::half(body, 0),
                 },
                 next,
             }
@@ -177,8 +120,8 @@ fn decode(kind: u16, body: &[u8], next: usize) -> Found
         6 => if body.len() == 3 {
             Found::Record {
                 step: Step::PortWrite {
-                    port: half(body, 0),
-                    value: byte(body, 2),
+                    port: fields::half(body, 0),
+                    value: fields::byte(body, 2),
                 },
                 next,
             }
@@ -188,10 +131,10 @@ fn decode(kind: u16, body: &[u8], next: usize) -> Found
         7 => if body.len() == 10 {
             Found::Record {
                 step: Step::Opcode {
-                    opcode: byte(body, 0),
-                    modrm: byte(body, 1),
-                    address: word(body, 2),
-                    next: word(body, 6),
+                    opcode: fields::byte(body, 0),
+                    modrm: fields::byte(body, 1),
+                    address: fields::word(body, 2),
+                    next: fields::word(body, 6),
                 },
                 next,
             }
@@ -237,14 +180,14 @@ pub fn read_record(trace: &[u8], at: usize) -> Found
     if left < 2 {
         return Found::Torn;
     }
-    let length = half(trace, at) as usize;
+    let length = fields::half(trace, at) as usize;
     if left - 2 < length {
         return Found::Torn; // the length overshoots
     }
     if length < 2 {
         return Found::Bad;
     }
-    let kind = half(trace, at + 2);
+    let kind = fields::half(trace, at + 2);
     let start = at + 4;
     let next = at + 2 + length;
     decode(kind, &trace[start..next], next)

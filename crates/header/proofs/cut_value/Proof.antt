@@ -2,8 +2,6 @@ use Rattle.header.specs.Header.{cut}
 use borrow.Author.Tests.{ne-eqb}
 use Rattle.header.proofs.cut_value.Statement.{statement}
 use Rattle.header.proofs.cut_value.Tie as tie
-use Rattle.header.proofs.cut_value.Reads as reads
-use Rattle.header.proofs.cut_value.Lts as lts
 
 returns : tie.Need-returns
 unfolding cut

@@ -1,12 +1,10 @@
 use Prim.Native.Nat.{_+_, _*_, _/_, _%_}
-use mathlib.Core.Path.{_≡_, ap}
+use mathlib.Core.Path.{_≡_}
 use Rattle.header.specs.Entry.{entryCs}
 use native.Mathlib.Omega.{arith}
 use borrow.Author.Needs.{needs}
 use Rattle.header.proofs.entry_cs.Statement.{statement}
 use Rattle.header.proofs.entry_cs.Tie as tie
-use Rattle.header.proofs.entry_cs.Reads as reads
-use Rattle.header.proofs.entry_cs.Lts as lts
 
 mul-t4 : tie.Need-mul-t4
 mul-t4 c = search needs

@@ -2,9 +2,6 @@ use Rattle.header.specs.Entry.{entryRegisters, entryCr0}
 use borrow.Author.Needs.{needs}
 use Rattle.header.proofs.entry_registers.Statement.{statement}
 use Rattle.header.proofs.entry_registers.Tie as tie
-use Rattle.header.proofs.entry_registers.Reads as reads
-use Rattle.header.proofs.entry_registers.Lts as lts
-use Rattle.header.proofs.entry_cs.Reads as entry-cs-reads
 
 entry-cs-requires : tie.Need-entry-cs-requires
 entry-cs-requires c κs = search needs

@@ -1,8 +1,6 @@
 use borrow.Author.Tests.{ne-eqb}
 use Rattle.header.proofs.level_of.Statement.{statement}
 use Rattle.header.proofs.level_of.Tie as tie
-use Rattle.header.proofs.level_of.Reads as reads
-use Rattle.header.proofs.level_of.Lts as lts
 
 returns : tie.Need-returns
 returns c = rw (c .match .keys1)

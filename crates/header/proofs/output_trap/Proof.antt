@@ -1,10 +1,6 @@
 use borrow.Author.Needs.{needs}
 use Rattle.header.proofs.output_trap.Statement.{statement}
 use Rattle.header.proofs.output_trap.Tie as tie
-use Rattle.header.proofs.output_trap.Reads as reads
-use Rattle.header.proofs.output_trap.Lts as lts
-use Rattle.header.proofs.cut_value.Reads as cut-value-reads
-use Rattle.header.proofs.port_size.Reads as port-size-reads
 
 port-size-requires : tie.Need-port-size-requires
 port-size-requires c κs = search needs

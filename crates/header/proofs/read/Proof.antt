@@ -2,58 +2,54 @@ use Rattle.header.specs.Header.{resumed}
 use borrow.Author.Needs.{needs}
 use Rattle.header.proofs.read.Statement.{statement}
 use Rattle.header.proofs.read.Tie as tie
-use Rattle.header.proofs.read.Reads as reads
-use Rattle.header.proofs.read.Lts as lts
-use Rattle.header.proofs.level_of.Reads as level-of-reads
-use Rattle.header.proofs.word_at.Reads as word-at-reads
 
-add-word-at : tie.Need-add-word-at
-add-word-at c = search needs
+add-word : tie.Need-add-word
+add-word c = search needs
 
-word-at-requires : tie.Need-word-at-requires
-word-at-requires c κs = search needs
+word-requires : tie.Need-word-requires
+word-requires c κs = search needs
 
-add-word-at-2 : tie.Need-add-word-at-2
-add-word-at-2 c = search needs
+add-word-2 : tie.Need-add-word-2
+add-word-2 c = search needs
 
-word-at-requires-2 : tie.Need-word-at-requires-2
-word-at-requires-2 c κs = search needs
+word-requires-2 : tie.Need-word-requires-2
+word-requires-2 c κs = search needs
 
-add-word-at-3 : tie.Need-add-word-at-3
-add-word-at-3 c = search needs
+add-word-3 : tie.Need-add-word-3
+add-word-3 c = search needs
 
-word-at-requires-3 : tie.Need-word-at-requires-3
-word-at-requires-3 c κs = search needs
+word-requires-3 : tie.Need-word-requires-3
+word-requires-3 c κs = search needs
 
-add-word-at-4 : tie.Need-add-word-at-4
-add-word-at-4 c = search needs
+add-word-4 : tie.Need-add-word-4
+add-word-4 c = search needs
 
-word-at-requires-4 : tie.Need-word-at-requires-4
-word-at-requires-4 c κs = search needs
+word-requires-4 : tie.Need-word-requires-4
+word-requires-4 c κs = search needs
 
-add-word-at-5 : tie.Need-add-word-at-5
-add-word-at-5 c = search needs
+add-word-5 : tie.Need-add-word-5
+add-word-5 c = search needs
 
-word-at-requires-5 : tie.Need-word-at-requires-5
-word-at-requires-5 c κs = search needs
+word-requires-5 : tie.Need-word-requires-5
+word-requires-5 c κs = search needs
 
-add-word-at-6 : tie.Need-add-word-at-6
-add-word-at-6 c = search needs
+add-word-6 : tie.Need-add-word-6
+add-word-6 c = search needs
 
-word-at-requires-6 : tie.Need-word-at-requires-6
-word-at-requires-6 c κs = search needs
+word-requires-6 : tie.Need-word-requires-6
+word-requires-6 c κs = search needs
 
-add-word-at-7 : tie.Need-add-word-at-7
-add-word-at-7 c = search needs
+add-word-7 : tie.Need-add-word-7
+add-word-7 c = search needs
 
-word-at-requires-7 : tie.Need-word-at-requires-7
-word-at-requires-7 c κs = search needs
+word-requires-7 : tie.Need-word-requires-7
+word-requires-7 c κs = search needs
 
-add-word-at-8 : tie.Need-add-word-at-8
-add-word-at-8 c = search needs
+add-word-8 : tie.Need-add-word-8
+add-word-8 c = search needs
 
-word-at-requires-8 : tie.Need-word-at-requires-8
-word-at-requires-8 c κs = search needs
+word-requires-8 : tie.Need-word-requires-8
+word-requires-8 c κs = search needs
 
 cast-t16 : tie.Need-cast-t16
 cast-t16 c = search needs
@@ -78,28 +74,28 @@ level-of-requires c κs = search needs
 
 returns : tie.Need-returns
 unfolding resumed
-returns c = rw ((c .level-of .ensures), (c .before .before .before .before .before .before .before .before .word-at .ensures), (c .before .before .before .before .before .before .before .word-at2 .ensures), (c .before .before .before .before .before .before .word-at3 .ensures), (c .before .before .before .before .before .word-at4 .ensures), (c .before .before .before .before .word-at5 .ensures), (c .before .before .before .word-at6 .ensures), (c .before .before .word-at7 .ensures), (c .before .word-at8 .ensures))
+returns c = rw ((c .level-of .ensures), (c .before .before .before .before .before .before .before .before .word .ensures), (c .before .before .before .before .before .before .before .word2 .ensures), (c .before .before .before .before .before .before .word3 .ensures), (c .before .before .before .before .before .word4 .ensures), (c .before .before .before .before .word5 .ensures), (c .before .before .before .word6 .ensures), (c .before .before .word7 .ensures), (c .before .word8 .ensures))
 
 pub read-spec : {M : Type 1} → statement M
 read-spec =
     tie.close
     (tie.spec
-    add-word-at
-    word-at-requires
-    add-word-at-2
-    word-at-requires-2
-    add-word-at-3
-    word-at-requires-3
-    add-word-at-4
-    word-at-requires-4
-    add-word-at-5
-    word-at-requires-5
-    add-word-at-6
-    word-at-requires-6
-    add-word-at-7
-    word-at-requires-7
-    add-word-at-8
-    word-at-requires-8
+    add-word
+    word-requires
+    add-word-2
+    word-requires-2
+    add-word-3
+    word-requires-3
+    add-word-4
+    word-requires-4
+    add-word-5
+    word-requires-5
+    add-word-6
+    word-requires-6
+    add-word-7
+    word-requires-7
+    add-word-8
+    word-requires-8
     cast-t16
     cast-t17
     cast-t18

@@ -3,8 +3,6 @@ use native.Mathlib.Omega.{arith}
 use borrow.Author.Tests.{ne-eqb}
 use Rattle.header.proofs.size_bits.Statement.{statement}
 use Rattle.header.proofs.size_bits.Tie as tie
-use Rattle.header.proofs.size_bits.Reads as reads
-use Rattle.header.proofs.size_bits.Lts as lts
 
 returns : tie.Need-returns
 unfolding sizeBits

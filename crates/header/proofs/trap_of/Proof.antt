@@ -1,10 +1,6 @@
 use borrow.Author.Needs.{needs}
 use Rattle.header.proofs.trap_of.Statement.{statement}
 use Rattle.header.proofs.trap_of.Tie as tie
-use Rattle.header.proofs.trap_of.Reads as reads
-use Rattle.header.proofs.trap_of.Lts as lts
-use Rattle.header.proofs.input_trap.Reads as input-trap-reads
-use Rattle.header.proofs.output_trap.Reads as output-trap-reads
 
 enum-told : tie.Need-enum-told
 enum-told c = search needs

@@ -1,10 +1,6 @@
 use borrow.Author.Needs.{needs}
 use Rattle.header.proofs.words_of.Statement.{statement}
 use Rattle.header.proofs.words_of.Tie as tie
-use Rattle.header.proofs.words_of.Reads as reads
-use Rattle.header.proofs.words_of.Lts as lts
-use Rattle.header.proofs.flag.Reads as flag-reads
-use Rattle.header.proofs.level_number.Reads as level-number-reads
 
 level-number-requires : tie.Need-level-number-requires
 level-number-requires c κs = search needs

@@ -1,13 +1,7 @@
 use Rattle.header.specs.Header.{headed, headerBytes}
-use lib.Seq.{sets}
-use mathlib.Core.Path.{ap, _∙_}
 use borrow.Author.Needs.{needs}
 use Rattle.header.proofs.write.Statement.{statement}
 use Rattle.header.proofs.write.Tie as tie
-use Rattle.header.proofs.write.Reads as reads
-use Rattle.header.proofs.write.Lts as lts
-use Rattle.header.proofs.put_words.Reads as put-words-reads
-use Rattle.header.proofs.words_of.Reads as words-of-reads
 
 words-of-requires : tie.Need-words-of-requires
 words-of-requires c κs = search needs
