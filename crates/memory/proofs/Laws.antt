@@ -1,18 +1,21 @@
 -- Laws of the memories, over any window, address and count. Assumes nothing.
 use mathlib.Core.Path.{_≡_, refl, sym, ap, _∙_}
-use mathlib.Core.Bool.{Bool, true, false, cond, not, _&&_}
+use mathlib.Core.Bool.{Bool, true, false, not, _&&_}
 use mathlib.Core.List.{List}
-use Prim.Native.Nat.{ℕ, zero, suc, _+_, _*_, _/_, _%_, _-_, _^_, _≤_, _<_}
-use native.Mathlib.Nat.{pow-suc, pow-le-pow-right}
+use Prim.Native.Nat.{ℕ, zero, suc, _+_, _/_, _%_, _-_, _≤_, _<_, min}
 use native.Mathlib.Omega.{arith}
-use lib.Dec.{lit<}
-use lib.Seq.{set-out}
-use lib.ListN.{List·getD-eq-default, length, length-set, getD, set}
+use lib.Seq.{set-out, sets}
+use lib.ListN.{List·getD-eq-default, length, getD, set}
+use borrow.Author.Tests.{le-ltb, lt-leb}
 use Rattle.region.specs.Region.{within}
 use Rattle.region.specs.declared.Region.{Region}
+use Rattle.fields.specs.Fields.{fieldAt, bytesOf}
+use Rattle.fields.proofs.Laws.{number-same}
+use Rattle.steps.specs.declared.Answer.the-variants.{Done, Value}
 use Rattle.memory.specs.declared.Segment.{Segment}
-use Rattle.memory.specs.Memory.{Memories, memories, byteAt, storeByte, absent, allThere, load, store, storeSegment, reads}
-use Rattle.memory.specs.declared.Loaded.the-variants.{Value, Beyond}
+use Rattle.memory.specs.declared.Route.the-variants.{Main, Management}
+use Rattle.memory.specs.Route.{Each, Routed}
+use Rattle.memory.specs.Memory.{Memories, memories, byteAt, storeByte, absent, allThere, load, storeBytes, store, storeSegment, reaches, reads, writes}
 
 up : (n : ℕ) → 0 < n → n ≡ suc (n - 1)
 up n h = omega arith
@@ -66,108 +69,110 @@ module _ (w : Region) (end a n : ℕ) where
   unfolding allThere
   none-left h = let e : n ≡ 0 = omega arith in rw e
 
--- ---- a number in bytes
+-- ---- storing
 
 module _ (w : Region) (x : Memories) (a : ℕ) where
-  -- a loop's turn: the number so far, and the byte below it
-  pub load-turn : (n i v b : ℕ) → 0 < i → i ≤ n → v ≡ load w x (a + i) (n - i) → b ≡ byteAt w x (a + (i - 1))
-      → v * 256 + b ≡ load w x (a + (i - 1)) (n - (i - 1))
-  unfolding load
-  load-turn n i v b h k e f =
-      let p : n - (i - 1) ≡ suc (n - i) = omega arith in
-      let q : a + (i - 1) + 1 ≡ a + i = omega arith in
-      rw p (omega (arith, ap (λ (j : ℕ). load w x j (n - i)) q))
-
-  pub load-none : (n : ℕ) → load w x (a + n) (n - n) ≡ 0
-  unfolding load
-  load-none n = let e : n - n ≡ 0 = omega arith in rw e
-
-  pub load-all : (n i : ℕ) → i ≤ 0 → load w x (a + i) (n - i) ≡ load w x a n
-  load-all n i h = let e : a + i ≡ a = omega arith in let f : n - i ≡ n = omega arith in rw (e, f)
-
   -- a loop's turn: what is left to store from the next byte on
   pub store-turn : (y o : Memories) (n v : ℕ) → 0 < n → y ≡ storeByte w x a (v % 256) → store w x a n v ≡ o
       → store w y (a + 1) (n - 1) (v / 256) ≡ o
-  unfolding store
+  unfolding storeBytes bytesOf
   store-turn y o n v h e f =
       ap (λ (z : Memories). store w z (a + 1) (n - 1) (v / 256)) e ∙ sym (ap (λ (k : ℕ). store w x a k v) (up n h)) ∙ f
 
   pub store-none : (n v : ℕ) → n ≤ 0 → store w x a n v ≡ x
-  unfolding store
+  unfolding storeBytes bytesOf
   store-none n v h = let e : n ≡ 0 = omega arith in rw e
-
--- a number of some bytes, and one byte more
-pub grows : (v b n i : ℕ) → 0 < i → i ≤ n → v < 256 ^ (n - i) → b < 256 → v * 256 + b < 256 ^ (n - (i - 1))
-grows v b n i h k l m =
-    let e : n - (i - 1) ≡ suc (n - i) = omega arith in
-    rw (e, pow-suc) (omega arith)
-
--- a number of at most seven bytes
-pub small : (v n i : ℕ) → n ≤ 8 → 0 < i → v < 256 ^ (n - i) → v < 72057594037927936
-small v n i h k l = omega (arith, pow-le-pow-right {n = 256} (lit< tt) {i = n - i} {j = 7} (omega arith))
-
--- ---- all or nothing
-
-module _ (w : Region) (x : Memories) (a : ℕ) where
-  pub read-there : (n k v : ℕ) → k ≡ n → allThere w (length (x .main)) a k ≡ true → v ≡ load w x a k → Value v ≡ reads w x a n
-  unfolding reads
-  read-there n k v e t l = rw (sym e, t, l)
-
-  pub read-cut : (n k : ℕ) → k ≡ n → allThere w (length (x .main)) a k ≡ false → Beyond ≡ reads w x a n
-  unfolding reads
-  read-cut n k e t = rw (sym e, t)
 
   pub segment-stored : (y z : Memories) (s : Segment) → y ≡ store w x a 8 (s .descriptor) → z ≡ store w y (a + 8) 2 (s .selector)
       → z ≡ storeSegment w x a s
   unfolding storeSegment
   segment-stored y z s e f = rw (← e) f
 
--- ---- a store keeps the lengths
+-- ---- all bytes in one memory
 
-abbrev pub SameLengths : Memories → Memories → Type 0
-SameLengths x y = (length (x .main) ≡ length (y .main)) × (length (x .management) ≡ length (y .management))
+module _ (w : Region) (t : Bool) where
+  -- of the first, and of those after it
+  each-first : (a n : ℕ) → Each w a (suc n) t → within w a ≡ t
+  each-first a n h = h a (omega arith) (omega arith)
+
+  each-next : (a n : ℕ) → Each w a (suc n) t → Each w (a + 1) n t
+  each-next a n h k l m = h k (omega arith) (omega arith)
 
 module _ (w : Region) where
-  pub byte-lengths : (x : Memories) (a b : ℕ) → SameLengths (storeByte w x a b) x
-  unfolding storeByte
-  byte-lengths x a b = go (within w a)
-    where
-      go : (t : Bool)
-          → SameLengths (cond t (memories (x .main) (set (x .management) (a - w .base) b)) (memories (set (x .main) a b) (x .management))) x
-      go true = (refl, length-set (x .management) (a - w .base) b)
-      go false = (length-set (x .main) a b, refl)
+  there-in : (end a n : ℕ) → a + n ≤ 4294967296 → Each w a n true → allThere w end a n ≡ true
+  unfolding allThere absent
+  there-in end a zero m h = refl
+  there-in end a (suc n) m h =
+      simp (le-ltb 0xffffffff a (omega arith), each-first w true a n h) (there-in end (a + 1) n (omega arith) (each-next w true a n h))
 
-  pub store-lengths : (x : Memories) (a n v : ℕ) → SameLengths (store w x a n v) x
-  unfolding store
-  store-lengths x a zero v = (refl, refl)
-  store-lengths x a (suc n) v =
-      let e = store-lengths (storeByte w x a (v % 256)) (a + 1) n (v / 256) in
-      let f = byte-lengths x a (v % 256) in
-      (e .0 ∙ f .0, e .1 ∙ f .1)
+  there-out : (end a n : ℕ) → a + n ≤ 4294967296 → a + n ≤ end → Each w a n false → allThere w end a n ≡ true
+  unfolding allThere absent
+  there-out end a zero m l h = refl
+  there-out end a (suc n) m l h =
+      simp (le-ltb 0xffffffff a (omega arith), each-first w false a n h, lt-leb end a (omega arith))
+      (there-out end (a + 1) n (omega arith) (omega arith) (each-next w false a n h))
 
-  pub segment-lengths : (x : Memories) (a : ℕ) (s : Segment) → SameLengths (storeSegment w x a s) x
-  unfolding storeSegment
-  segment-lengths x a s =
-      let e = store-lengths (store w x a 8 (s .descriptor)) (a + 8) 2 (s .selector) in
-      let f = store-lengths x a 8 (s .descriptor) in
-      (e .0 ∙ f .0, e .1 ∙ f .1)
+  load-in : (x : Memories) (a n : ℕ) → w .base ≤ a → Each w a n true → load w x a n ≡ fieldAt (x .management) (a - w .base) n
+  load-in x a n l h =
+      number-same _ _ a (a - w .base) n
+      (λ i m. byte-in w x (a + i) (h (a + i) (omega arith) (omega arith))
+      ∙ ap (λ (k : ℕ). getD (x .management) k 0) (let e : a + i - w .base ≡ a - w .base + i = omega arith in e))
 
--- ---- a window that no address is in: management memory is neither read nor changed
+  pub load-out : (x : Memories) (a n : ℕ) → Each w a n false → load w x a n ≡ fieldAt (x .main) a n
+  load-out x a n h = number-same _ _ a a n (λ i m. byte-out w x (a + i) (h (a + i) (omega arith) (omega arith)))
 
-unfoldable pub storedMain : List ℕ → ℕ → ℕ → ℕ → List ℕ
-storedMain m a zero v = m
-storedMain m a (suc n) v = storedMain (set m a (v % 256)) (a + 1) n (v / 256)
+  store-all-in : (x : Memories) (a n v : ℕ) → w .base ≤ a → Each w a n true
+      → store w x a n v ≡ memories (x .main) (sets (x .management) (a - w .base) (bytesOf n v))
+  unfolding storeBytes bytesOf
+  store-all-in x a zero v l h = refl
+  store-all-in x a (suc n) v l h =
+      let k : a + 1 - w .base ≡ suc (a - w .base) = omega arith in
+      let y = set (x .management) (a - w .base) (v % 256) in
+      ap (λ (z : Memories). store w z (a + 1) n (v / 256)) (store-in w x a (v % 256) (each-first w true a n h))
+      ∙ store-all-in (memories (x .main) y) (a + 1) n (v / 256) (omega arith) (each-next w true a n h)
+      ∙ ap (λ (j : ℕ). memories (x .main) (sets y j (bytesOf n (v / 256)))) k
 
-module _ (w : Region) (shut : (a : ℕ) → within w a ≡ false) where
-  pub load-shut : (m g h : List ℕ) (a n : ℕ) → load w (memories m g) a n ≡ load w (memories m h) a n
-  unfolding load
-  load-shut m g h a zero = refl
-  load-shut m g h a (suc n) =
-      rw (byte-out w (memories m g) a (shut a), byte-out w (memories m h) a (shut a), load-shut m g h (a + 1) n)
+  pub store-all-out : (x : Memories) (a n v : ℕ) → Each w a n false
+      → store w x a n v ≡ memories (sets (x .main) a (bytesOf n v)) (x .management)
+  unfolding storeBytes bytesOf
+  store-all-out x a zero v h = refl
+  store-all-out x a (suc n) v h =
+      let k : a + 1 ≡ suc a = omega arith in
+      let y = set (x .main) a (v % 256) in
+      ap (λ (z : Memories). store w z (a + 1) n (v / 256)) (store-out w x a (v % 256) (each-first w false a n h))
+      ∙ store-all-out (memories y (x .management)) (a + 1) n (v / 256) (each-next w false a n h)
+      ∙ ap (λ (j : ℕ). memories (sets y j (bytesOf n (v / 256))) (x .management)) k
 
-  pub store-shut : (m g : List ℕ) (a n v : ℕ) → store w (memories m g) a n v ≡ memories (storedMain m a n v) g
-  unfolding store storedMain
-  store-shut m g a zero v = refl
-  store-shut m g a (suc n) v =
-      ap (λ (x : Memories). store w x (a + 1) n (v / 256)) (store-out w (memories m g) a (v % 256) (shut a))
-      ∙ store-shut (set m a (v % 256)) g (a + 1) n (v / 256)
+-- ---- all or nothing
+
+module _ (w : Region) (x : Memories) (a : ℕ) where
+  read-there : (n k v : ℕ) → k ≡ n → allThere w (length (x .main)) a k ≡ true → v ≡ load w x a k → Value v ≡ reads w x a n
+  unfolding reads
+  read-there n k v e t l = rw (sym e, t, l)
+
+  pub read-main : (n k v : ℕ) → k ≡ n → k ≤ 4 → Routed w (length (x .main)) a k Main → v ≡ fieldAt (x .main) a (min k 8) → Value v ≡ reads w x a n
+  read-main n k v e l r f =
+      let m : min k 8 ≡ k = omega arith in
+      read-there n k v e (there-out w (length (x .main)) a k (r .0) (r .1) (r .2)) (f ∙ ap (fieldAt (x .main) a) m ∙ sym (load-out w x a k (r .2)))
+
+  pub read-management : (n k v : ℕ) → k ≡ n → k ≤ 4 → Routed w (length (x .main)) a k Management
+      → v ≡ fieldAt (x .management) (a - w .base) (min k 8) → Value v ≡ reads w x a n
+  read-management n k v e l r f =
+      let m : min k 8 ≡ k = omega arith in
+      read-there n k v e (there-in w (length (x .main)) a k (r .0) (r .2)) (f ∙ ap (fieldAt (x .management) (a - w .base)) m ∙ sym (load-in w x a k (r .1) (r .2)))
+
+  written : (y : Memories) (n v : ℕ) → allThere w (length (x .main)) a n ≡ true → y ≡ store w x a n v → reaches Done y ≡ writes w x a n v
+  unfolding writes
+  written y n v t e = rw (t, e)
+
+  pub written-main : (l : List ℕ) (n v : ℕ) → Routed w (length (x .main)) a n Main → l ≡ sets (x .main) a (bytesOf n v)
+      → reaches Done (memories l (x .management)) ≡ writes w x a n v
+  written-main l n v r e =
+      written _ n v (there-out w (length (x .main)) a n (r .0) (r .1) (r .2))
+      (ap (λ (z : List ℕ). memories z (x .management)) e ∙ sym (store-all-out w x a n v (r .2)))
+
+  pub written-management : (l : List ℕ) (n v : ℕ) → Routed w (length (x .main)) a n Management
+      → l ≡ sets (x .management) (a - w .base) (bytesOf n v) → reaches Done (memories (x .main) l) ≡ writes w x a n v
+  written-management l n v r e =
+      written _ n v (there-in w (length (x .main)) a n (r .0) (r .2))
+      (ap (memories (x .main)) e ∙ sym (store-all-in w x a n v (r .1) (r .2)))

@@ -1,15 +1,16 @@
 -- 01, "Routing, byte by byte": the two memories, which of them answers a byte, and what is read and stored there.
 -- A window is the region whose bytes management memory answers; one of code 0 sends every byte to main memory.
-use Prim.Native.Nat.{ℕ, zero, suc, _+_, _*_, _/_, _%_, _-_}
-use mathlib.Core.Bool.{Bool, true, cond, not, _&&_, _||_}
-use mathlib.Core.List.{List}
+use Prim.Native.Nat.{ℕ, zero, suc, _+_, _-_}
+use mathlib.Core.Bool.{Bool, true, false, cond, not, _&&_, _||_}
+use mathlib.Core.List.{List, [], _∷_}
 use lib.ListN.{length, getD, set}
 use lib.Dec.{leb, ltb}
 use Rattle.region.specs.Region.{within}
 use Rattle.region.specs.declared.Region.{Region}
 use Rattle.memory.specs.declared.Segment.{Segment}
-use Rattle.memory.specs.declared.Loaded.{Loaded}
-use Rattle.memory.specs.declared.Loaded.the-variants.{Value, Beyond}
+use Rattle.fields.specs.Fields.{numberBy, bytesOf}
+use Rattle.steps.specs.declared.Answer.{Answer}
+use Rattle.steps.specs.declared.Answer.the-variants.{Done, Value, Absent}
 use Rattle.memory.specs.declared.Operand.{Operand}
 use Rattle.memory.specs.declared.Operand.the-variants.{Whole, Cut}
 
@@ -20,8 +21,8 @@ pub record Memories : Type 0 where
 abbrev pub memories : List ℕ → List ℕ → Memories
 memories a b = record { main = a; management = b }
 
--- "Main memory answers addresses from 0"; "management memory: its byte k is the region's byte k". Past a memory's end a byte reads 0,
--- and a store there is dropped.
+-- "Main memory answers addresses from 0 to its length less 1"; "Management memory .. its byte k is the region's byte k". Past a memory's
+-- end a byte reads 0, and a store there is dropped.
 unfoldable pub byteAt : Region → Memories → ℕ → ℕ
 byteAt w x a = cond (within w a) (getD (x .management) (a - w .base) 0) (getD (x .main) a 0)
 
@@ -41,14 +42,17 @@ allThere w end a zero = true
 allThere w end a (suc count) = not (absent w end a) && allThere w end (a + 1) count
 
 -- the number in count bytes from a on, "little-endian"
-unfoldable pub load : Region → Memories → ℕ → ℕ → ℕ
-load w x a zero = 0
-load w x a (suc count) = byteAt w x a + 256 * load w x (a + 1) count
+abbrev pub load : Region → Memories → ℕ → ℕ → ℕ
+load w x a count = numberBy (byteAt w x) a count
 
--- the memories with the count low bytes of v from a on, "little-endian, low bytes of the value"
-unfoldable pub store : Region → Memories → ℕ → ℕ → ℕ → Memories
-store w x a zero v = x
-store w x a (suc count) v = store w (storeByte w x a (v % 256)) (a + 1) count (v / 256)
+-- the memories with some bytes stored from a on
+unfoldable pub storeBytes : Region → Memories → ℕ → List ℕ → Memories
+storeBytes w x a [] = x
+storeBytes w x a (b ∷ bs) = storeBytes w (storeByte w x a b) (a + 1) bs
+
+-- with the count low bytes of v, "little-endian, low bytes of the value"
+abbrev pub store : Region → Memories → ℕ → ℕ → ℕ → Memories
+store w x a count v = storeBytes w x a (bytesOf count v)
 
 -- "The operand is 10 bytes: descriptor, then selector."
 abbrev pub operandLength : ℕ
@@ -60,15 +64,33 @@ segmentAt w x a = record { selector = load w x (a + 8) 2; descriptor = load w x 
 unfoldable pub storeSegment : Region → Memories → ℕ → Segment → Memories
 storeSegment w x a s = store w (store w x a 8 (s .descriptor)) (a + 8) 2 (s .selector)
 
--- what a read gives, and what a write leaves: all of it, or nothing where a byte is absent
-unfoldable pub reads : Region → Memories → ℕ → ℕ → Loaded
-reads w x a count = cond (allThere w (length (x .main)) a count) (Value (load w x a count)) Beyond
+-- what an access leaves: its answer and the memories, or for an operand that is written whether it was, and the memories
+pub record Reached : Type 0 where
+  pub answer : Answer
+  pub memory : Memories
 
-unfoldable pub writes : Region → Memories → ℕ → ℕ → ℕ → Memories
-writes w x a count v = cond (allThere w (length (x .main)) a count) (store w x a count v) x
+abbrev pub reaches : Answer → Memories → Reached
+reaches a x = record { answer = a; memory = x }
+
+pub record Attempt : Type 0 where
+  pub made : Bool
+  pub memory : Memories
+
+abbrev pub attempt : Bool → Memories → Attempt
+attempt b x = record { made = b; memory = x }
+
+-- all of count bytes from a on are there, and all is read or written; or a byte is absent, and nothing is
+abbrev pub allOrNothing : {A : Type 0} → Region → Memories → ℕ → ℕ → A → A → A
+allOrNothing w x a count all nothing = cond (allThere w (length (x .main)) a count) all nothing
+
+unfoldable pub reads : Region → Memories → ℕ → ℕ → Answer
+reads w x a count = allOrNothing w x a count (Value (load w x a count)) Absent
+
+unfoldable pub writes : Region → Memories → ℕ → ℕ → ℕ → Reached
+writes w x a count v = allOrNothing w x a count (reaches Done (store w x a count v)) (reaches Absent x)
 
 unfoldable pub readsSegment : Region → Memories → ℕ → Operand
-readsSegment w x a = cond (allThere w (length (x .main)) a operandLength) (Whole (segmentAt w x a)) Cut
+readsSegment w x a = allOrNothing w x a operandLength (Whole (segmentAt w x a)) Cut
 
-unfoldable pub writesSegment : Region → Memories → ℕ → Segment → Memories
-writesSegment w x a s = cond (allThere w (length (x .main)) a operandLength) (storeSegment w x a s) x
+unfoldable pub writesSegment : Region → Memories → ℕ → Segment → Attempt
+writesSegment w x a s = allOrNothing w x a operandLength (attempt true (storeSegment w x a s)) (attempt false x)

@@ -1,8 +1,9 @@
 ghost use mathlib.Core.Path.{_≡_};
 ghost use Prim.Native.Nat.{_^_, _≤_, _<_, min};
-ghost use lib.ListN.{length};
-ghost use Rattle.memory.specs.Memory.{memories, byteAt, storeByte, absent, allThere, load, store, operandLength, reads, writes, readsSegment, writesSegment};
+ghost use Rattle.memory.specs.Memory.{memories, byteAt, storeByte, absent, allThere, load, store, reaches, attempt, reads, writes, readsSegment, writesSegment};
+ghost use Rattle.memory.specs.Route.{Routed};
 use region::Region;
+use steps::Answer;
 
 // A segment register: in memory the descriptor's eight bytes, and then the selector's two.
 pub struct Segment {
@@ -10,16 +11,17 @@ pub struct Segment {
     pub descriptor: u64,
 }
 
-// What reading a number finds.
-pub enum Loaded {
-    Value(u32),
-    Beyond,
-}
-
 // What reading a segment finds.
 pub enum Operand {
     Whole(Segment),
     Cut,
+}
+
+// The memory that answers all bytes of an access; bytewise where they are to be taken one by one.
+enum Route {
+    Main,
+    Management,
+    Bytewise,
 }
 
 // The byte at an address: management memory's in the window, and main memory's elsewhere.
@@ -128,15 +130,31 @@ fn store_at(
     }
 }
 
-// Reads width bytes from an address on; a width above 4 is taken as 4.
-pub fn read(window: Region, main: &[u8], management: &[u8], address: u32, width: u8) -> Loaded
-    ensures { λ r. ⌜ r ≡ reads window (memories (now (main .entry)) (now (management .entry))) address (min width 4) ⌝ }
+// A region has no gap and at least 4,096 bytes, so that the region test of the first and the last byte decides for all between.
+fn route_of(window: Region, end: usize, address: u32, count: u8) -> Route
+    ensures { λ r. ⌜ Routed window end address count r ⌝ }
 {
-    let count = at_most_four(width);
-    if all_there(window, main.len(), address, count) {
-        return Loaded::Value(load_at(window, main, management, address as u64, count) as u32);
+    if count == 0 {
+        return Route::Bytewise;
     }
-    Loaded::Beyond
+    let first = address as u64;
+    let last = first + (count - 1) as u64;
+    if 0xFFFFFFFF < last {
+        return Route::Bytewise;
+    }
+    if window.contains(first) {
+        if window.contains(last) {
+            return Route::Management;
+        }
+        return Route::Bytewise;
+    }
+    if end as u64 <= last {
+        return Route::Bytewise;
+    }
+    if window.contains(last) {
+        return Route::Bytewise;
+    }
+    Route::Main
 }
 
 fn at_most_four(width: u8) -> u8
@@ -145,7 +163,55 @@ fn at_most_four(width: u8) -> u8
     if width <= 4 { width } else { 4 }
 }
 
-// Writes the width low bytes of a value from an address on, and says whether it did: where a byte is absent, nothing is written.
+fn read_bytewise(window: Region, main: &[u8], management: &[u8], address: u32, count: u8) -> Answer
+    requires { ⌜ count ≤ 4 ⌝ }
+    ensures { λ r. ⌜ r ≡ reads window (memories (now (main .entry)) (now (management .entry))) address count ⌝ }
+{
+    if all_there(window, main.len(), address, count) {
+        let v = load_at(window, main, management, address as u64, count);
+        return Answer::Value(v as u32);
+    }
+    Answer::Absent
+}
+
+fn write_bytewise(
+    window: Region,
+    main: &mut [u8],
+    management: &mut [u8],
+    address: u32,
+    count: u8,
+    value: u64,
+) -> Answer
+    ensures { λ r. ⌜ reaches r (memories (now (main .exit)) (now (management .exit)))
+        ≡ writes window (memories (now (main .entry)) (now (management .entry))) address count value ⌝ }
+{
+    if all_there(window, main.len(), address, count) {
+        store_at(window, main, management, address as u64, count, value);
+        return Answer::Done;
+    }
+    Answer::Absent
+}
+
+// Reads width bytes from an address on; a width above 4 is taken as 4.
+pub fn read(window: Region, main: &[u8], management: &[u8], address: u32, width: u8) -> Answer
+    ensures { λ r. ⌜ r ≡ reads window (memories (now (main .entry)) (now (management .entry))) address (min width 4) ⌝ }
+{
+    let count = at_most_four(width);
+    match route_of(window, main.len(), address, count) {
+        Route::Main => {
+            let v = fields::number_at(main, address as usize, count);
+            Answer::Value(v as u32)
+        }
+        Route::Management => {
+            let k = (address - window.base) as usize;
+            let v = fields::number_at(management, k, count);
+            Answer::Value(v as u32)
+        }
+        Route::Bytewise => read_bytewise(window, main, management, address, count),
+    }
+}
+
+// Writes the width low bytes of a value from an address on, those above its fourth as 0; where a byte is absent, nothing is written.
 pub fn write(
     window: Region,
     main: &mut [u8],
@@ -153,23 +219,23 @@ pub fn write(
     address: u32,
     width: u8,
     value: u32,
-) -> bool
-    ensures { λ r. ⌜ r ≡ allThere window (length (now (main .entry))) address width ⌝ }
-    ensures wrote { λ r. ⌜ memories (now (main .exit)) (now (management .exit))
+) -> Answer
+    ensures { λ r. ⌜ reaches r (memories (now (main .exit)) (now (management .exit)))
         ≡ writes window (memories (now (main .entry)) (now (management .entry))) address width value ⌝ }
 {
-    if all_there(window, main.len(), address, width) {
-        store_at(
-            window,
-            main,
-            management,
-            address as u64,
-            width,
-            value as u64,
-        );
-        return true;
+    let v = value as u64;
+    match route_of(window, main.len(), address, width) {
+        Route::Main => {
+            fields::store_at(main, address as usize, width, v);
+            Answer::Done
+        }
+        Route::Management => {
+            let k = (address - window.base) as usize;
+            fields::store_at(management, k, width, v);
+            Answer::Done
+        }
+        Route::Bytewise => write_bytewise(window, main, management, address, width, v),
     }
-    false
 }
 
 // Reads a segment's ten bytes from an address on.
@@ -196,8 +262,7 @@ pub fn write_segment(
     address: u32,
     s: Segment,
 ) -> bool
-    ensures { λ r. ⌜ r ≡ allThere window (length (now (main .entry))) address operandLength ⌝ }
-    ensures wrote { λ r. ⌜ memories (now (main .exit)) (now (management .exit))
+    ensures { λ r. ⌜ attempt r (memories (now (main .exit)) (now (management .exit)))
         ≡ writesSegment window (memories (now (main .entry)) (now (management .entry))) address s ⌝ }
 {
     let end = main.len();

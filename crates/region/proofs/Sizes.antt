@@ -1,9 +1,8 @@
 -- The sizes that the codes name. Assumes nothing.
-use mathlib.Core.Path.{_≡_, refl, sym, ap, _∙_}
-use mathlib.Core.Bool.{Bool, true, false, cond}
-use Prim.Native.Nat.{ℕ, _+_, _*_, _^_, _%_, _-_, _≤_, _<_}
+use mathlib.Core.Path.{_≡_, sym, _∙_}
+use Prim.Native.Nat.{ℕ, _+_, _*_, _^_, _%_, _-_, _≤_}
 use native.Mathlib.Omega.{arith}
-use lib.Dec.{lit<, eqb, leb}
+use lib.Dec.{lit<}
 use lib.Pow.{pow-add, pow-mono, shl-exact}
 use borrow.Author.Tests.{ne-eqb, le-leb}
 use Rattle.region.specs.Region.{sizeOf}

@@ -1,4 +1,4 @@
-use Rattle.memory.proofs.Laws.{load-turn, load-none, load-all, grows, small}
+use Rattle.fields.proofs.Laws.{number-turn, number-none, number-all, grows, fits}
 use Rattle.memory.specs.Memory.{memories, load}
 use borrow.Author.Needs.{needs}
 use lib.Dec.{lit<}
@@ -18,7 +18,7 @@ abbrev μ-loop : tie.MeasureT-loop
 μ-loop window main management address count value₀ i₀ value i = i
 
 loop-holds : tie.Need-loop-holds Inv-loop μ-loop
-loop-holds c = (omega arith, rw sub-self (lit< tt), sym (load-none _ _ _ _))
+loop-holds c = (omega arith, rw sub-self (lit< tt), sym (number-none _ _ _))
 
 sub-i : tie.Need-sub-i Inv-loop μ-loop
 sub-i c = search needs
@@ -26,7 +26,7 @@ sub-i c = search needs
 mul-value : tie.Need-mul-value Inv-loop μ-loop
 mul-value c =
     let l = c .before .loop in
-    omega (arith, small (l .value) (c .before .before .before .before .args .count) (l .i) (omega arith) (omega arith) (l .inv .1))
+    omega (arith, fits (l .value) (c .before .before .before .before .args .count - l .i) 7 (omega arith) (l .inv .1))
 
 cast-byte-at : tie.Need-cast-byte-at Inv-loop μ-loop
 cast-byte-at c = search needs
@@ -44,7 +44,7 @@ add-value : tie.Need-add-value Inv-loop μ-loop
 add-value c =
     let b = c .before .before in
     let l = b .loop in
-    omega (arith, small (l .value) (b .before .before .before .args .count) (l .i) (omega arith) (omega arith) (l .inv .1))
+    omega (arith, fits (l .value) (b .before .before .before .args .count - l .i) 7 (omega arith) (l .inv .1))
 
 loop-less : tie.Need-loop-less Inv-loop μ-loop
 loop-less c = search needs
@@ -57,7 +57,7 @@ loop-again c =
     let r = c .byte-at .result in (
       omega arith,
       omega (arith, grows (l .value) r n (l .i) (omega arith) (omega arith) (l .inv .1) (omega arith)),
-      load-turn _ _ _ n (l .i) (l .value) r (omega arith) (omega arith) (l .inv .2) (c .byte-at .ensures),
+      number-turn _ _ n (l .i) (l .value) r (omega arith) (omega arith) (l .inv .2) (c .byte-at .ensures),
     )
 
 returns : tie.Need-returns Inv-loop μ-loop
@@ -65,7 +65,7 @@ returns c =
     let l = c .before .loop in
     let n = c .before .before .before .before .args .count in
     let e : n - l .i ≡ n = omega arith in
-    (l .inv .2 ∙ load-all _ _ _ _ _ (omega arith), rw e at (l .inv .1))
+    (l .inv .2 ∙ number-all _ _ _ _ (omega arith), rw e at (l .inv .1))
 
 pub load-at-spec : {M : Type 1} → statement M
 load-at-spec =

@@ -1,8 +1,8 @@
-use Rattle.memory.proofs.Laws.{read-there, read-cut}
-use lib.Dec.{lit<}
+use Prim.Native.Nat.{min}
+use mathlib.Core.Path.{sym}
 use native.Mathlib.Omega.{arith}
-use native.Mathlib.Nat.{pow-le-pow-right}
-use mathlib.Core.Path.{sym, _∙_}
+use Rattle.memory.proofs.Laws.{read-main, read-management}
+use Rattle.fields.proofs.Laws.{fits}
 use borrow.Author.Needs.{needs}
 use Rattle.memory.proofs.read.Statement.{statement}
 use Rattle.memory.proofs.read.Tie as tie
@@ -10,27 +10,68 @@ use Rattle.memory.proofs.read.Tie as tie
 at-most-four-requires : tie.Need-at-most-four-requires
 at-most-four-requires c κs = search needs
 
-all-there-requires : tie.Need-all-there-requires
-all-there-requires c κs = search needs
+route-of-requires : tie.Need-route-of-requires
+route-of-requires c κs = search needs
 
-load-at-requires : tie.Need-load-at-requires
-load-at-requires c κs = search needs
+enum-told : tie.Need-enum-told
+enum-told c = search needs
 
-cast-t11 : tie.Need-cast-t11
-cast-t11 c =
-    let n = c .before .before .before .at-most-four .result in
-    omega (arith, pow-le-pow-right {n = 256} (lit< tt) {i = n} {j = 4} (omega arith))
+number-at-requires : tie.Need-number-at-requires
+number-at-requires c κs = search needs
+
+cast-t14 : tie.Need-cast-t14
+cast-t14 c =
+    let n = c .before .before .before .before .at-most-four in
+    omega (arith, fits (c .number-at .result) (min (n .result) 8) 4 (omega (arith, n .ensures .1)) (c .number-at .ensures .1))
+
+enum-told-2 : tie.Need-enum-told-2
+enum-told-2 c = search needs
+
+sub-k : tie.Need-sub-k
+sub-k c = let r = rw (c .before .enum-told2 .given .1) at (c .before .before .before .route-of .ensures) in r .1
+
+cast-k : tie.Need-cast-k
+cast-k c = search needs
+
+number-at-requires-2 : tie.Need-number-at-requires-2
+number-at-requires-2 c κs = search needs
+
+cast-t15 : tie.Need-cast-t15
+cast-t15 c =
+    let n = c .before .before .before .before .before .at-most-four in
+    omega (arith, fits (c .number-at2 .result) (min (n .result) 8) 4 (omega (arith, n .ensures .1)) (c .number-at2 .ensures .1))
+
+enum-told-3 : tie.Need-enum-told-3
+enum-told-3 c = search needs
+
+read-bytewise-requires : tie.Need-read-bytewise-requires
+read-bytewise-requires c κs = search needs
 
 returns : tie.Need-returns
-returns c =
-    let b = c .before .before in
-    read-there _ _ _ _ _ _ (b .before .at-most-four .ensures .0) (sym (b .all-there .ensures) ∙ c .before .if1 .taken) (c .load-at .ensures .0)
+returns c = read-main _ _ _ _ _ _ (c .before .before .before .before .at-most-four .ensures .0) (c .before .before .before .before .at-most-four .ensures .1) (rw (c .before .enum-told .given .1) at (c .before .before .before .route-of .ensures)) (c .number-at .ensures .0)
 
 returns-2 : tie.Need-returns-2
-returns-2 c =
-    read-cut _ _ _ _ _ (c .before .before .at-most-four .ensures .0) (sym (c .before .all-there .ensures) ∙ c .if1 .left)
+returns-2 c = read-management _ _ _ _ _ _ (c .before .before .before .before .before .at-most-four .ensures .0) (c .before .before .before .before .before .at-most-four .ensures .1) (rw (c .before .before .enum-told2 .given .1) at (c .before .before .before .before .route-of .ensures)) (c .number-at2 .ensures .0)
+
+returns-3 : tie.Need-returns-3
+returns-3 c = rw (sym (c .before .before .before .before .at-most-four .ensures .0)) (c .read-bytewise .ensures)
 
 pub read-spec : {M : Type 1} → statement M
 read-spec =
     tie.close
-    (tie.spec at-most-four-requires all-there-requires load-at-requires cast-t11 returns returns-2)
+    (tie.spec
+    at-most-four-requires
+    route-of-requires
+    enum-told
+    number-at-requires
+    cast-t14
+    enum-told-2
+    sub-k
+    cast-k
+    number-at-requires-2
+    cast-t15
+    enum-told-3
+    read-bytewise-requires
+    returns
+    returns-2
+    returns-3)

@@ -1,4 +1,4 @@
-use Rattle.region.proofs.Laws.{within-low}
+use Rattle.region.proofs.Laws.{within-has}
 use Rattle.memory.proofs.Laws.{store-in, store-out, store-in-beyond, store-out-beyond}
 use mathlib.Core.Path.{sym, _∙_}
 use borrow.Author.Needs.{needs}
@@ -12,7 +12,7 @@ cast-base : tie.Need-cast-base
 cast-base c = search needs
 
 sub-k : tie.Need-sub-k
-sub-k c = within-low _ _ (sym (c .before .before .contains .ensures) ∙ c .before .if1 .taken)
+sub-k c = within-has _ _ (sym (c .before .before .contains .ensures) ∙ c .before .if1 .taken) .low
 
 slice-write-management : tie.Need-slice-write-management
 slice-write-management c = search needs

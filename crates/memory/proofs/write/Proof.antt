@@ -1,33 +1,73 @@
-use Rattle.memory.specs.Memory.{writes}
-use mathlib.Core.Path.{sym, _∙_}
+use Rattle.memory.proofs.Laws.{written-main, written-management}
 use borrow.Author.Needs.{needs}
 use Rattle.memory.proofs.write.Statement.{statement}
 use Rattle.memory.proofs.write.Tie as tie
 
-all-there-requires : tie.Need-all-there-requires
-all-there-requires c κs = search needs
+route-of-requires : tie.Need-route-of-requires
+route-of-requires c κs = search needs
+
+enum-told : tie.Need-enum-told
+enum-told c = search needs
 
 store-at-requires : tie.Need-store-at-requires
 store-at-requires c κs = search needs
 
+enum-told-2 : tie.Need-enum-told-2
+enum-told-2 c = search needs
+
+sub-k : tie.Need-sub-k
+sub-k c = let r = rw (c .before .enum-told2 .given .1) at (c .before .before .before .route-of .ensures) in r .1
+
+cast-k : tie.Need-cast-k
+cast-k c = search needs
+
+store-at-requires-2 : tie.Need-store-at-requires-2
+store-at-requires-2 c κs = search needs
+
+enum-told-3 : tie.Need-enum-told-3
+enum-told-3 c = search needs
+
+write-bytewise-requires : tie.Need-write-bytewise-requires
+write-bytewise-requires c κs = search needs
+
 same-length : tie.Need-same-length
 same-length c = search needs
+
+returns : tie.Need-returns
+returns c = written-main _ _ _ _ _ _ (rw (c .before .before .before .before .enum-told .given .1) at (c .before .before .before .before .before .before .route-of .ensures)) (c .before .before .store-at .ensures)
 
 same-length-2 : tie.Need-same-length-2
 same-length-2 c = search needs
 
-returns : tie.Need-returns
-unfolding writes
-returns c =
-    let b = c .before .before .before .before in
-    let t = sym (b .before .before .before .before .all-there .ensures) ∙ b .before .before .before .if1 .taken in
-    (sym t, rw t (b .store-at .ensures))
-
 returns-2 : tie.Need-returns-2
-unfolding writes
-returns-2 c = let t = sym (c .before .all-there .ensures) ∙ c .if1 .left in (sym t, rw t)
+returns-2 c = written-management _ _ _ _ _ _ (rw (c .before .before .before .before .before .enum-told2 .given .1) at (c .before .before .before .before .before .before .before .route-of .ensures)) (c .before .before .store-at2 .ensures)
+
+same-length-3 : tie.Need-same-length-3
+same-length-3 c = search needs
+
+same-length-4 : tie.Need-same-length-4
+same-length-4 c = search needs
+
+returns-3 : tie.Need-returns-3
+returns-3 c = search needs
 
 pub write-spec : {M : Type 1} → statement M
 write-spec =
     tie.close
-    (tie.spec all-there-requires store-at-requires same-length same-length-2 returns returns-2)
+    (tie.spec
+    route-of-requires
+    enum-told
+    store-at-requires
+    enum-told-2
+    sub-k
+    cast-k
+    store-at-requires-2
+    enum-told-3
+    write-bytewise-requires
+    same-length
+    returns
+    same-length-2
+    returns-2
+    same-length-3
+    same-length-4
+    returns-3)

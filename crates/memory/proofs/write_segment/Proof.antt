@@ -1,6 +1,6 @@
-use Rattle.memory.specs.Memory.{writesSegment}
-use Rattle.memory.proofs.Laws.{segment-stored}
 use mathlib.Core.Path.{sym, _∙_}
+use Rattle.memory.proofs.Laws.{segment-stored}
+use Rattle.memory.specs.Memory.{writesSegment}
 use borrow.Author.Needs.{needs}
 use Rattle.memory.proofs.write_segment.Statement.{statement}
 use Rattle.memory.proofs.write_segment.Tie as tie
@@ -28,15 +28,11 @@ same-length-2 c = search needs
 
 returns : tie.Need-returns
 unfolding writesSegment
-returns c =
-    let d = c .before .before .before .before in
-    let b = d .before .before .before .before .before .before .before .before in
-    let t = sym (b .before .before .before .before .all-there .ensures) ∙ b .before .before .before .if1 .taken in
-    (sym t, rw t (segment-stored _ _ _ _ _ _ (b .store-at .ensures) (d .store-at2 .ensures)))
+returns c = rw (sym (c .before .before .before .before .before .before .before .before .before .before .before .before .before .before .before .before .all-there .ensures) ∙ (c .before .before .before .before .before .before .before .before .before .before .before .before .before .before .before .if1 .taken), sym (segment-stored _ _ _ _ _ _ (c .before .before .before .before .before .before .before .before .before .before .before .before .store-at .ensures) (c .before .before .before .before .store-at2 .ensures)))
 
 returns-2 : tie.Need-returns-2
 unfolding writesSegment
-returns-2 c = let t = sym (c .before .all-there .ensures) ∙ c .if1 .left in (sym t, rw t)
+returns-2 c = rw (sym (c .before .all-there .ensures) ∙ (c .if1 .left))
 
 pub write-segment-spec : {M : Type 1} → statement M
 write-segment-spec =

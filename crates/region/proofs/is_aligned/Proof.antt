@@ -5,8 +5,6 @@ use Prim.Native.Nat.{_+_}
 use borrow.Author.Needs.{needs}
 use Rattle.region.proofs.is_aligned.Statement.{statement}
 use Rattle.region.proofs.is_aligned.Tie as tie
-use Rattle.region.proofs.is_aligned.Reads as reads
-use Rattle.region.proofs.is_aligned.Lts as lts
 
 add-result : tie.Need-add-result
 add-result c = search needs

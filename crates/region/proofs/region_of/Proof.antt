@@ -3,8 +3,6 @@ use Rattle.region.specs.Region.{regionOf}
 use borrow.Author.Needs.{needs}
 use Rattle.region.proofs.region_of.Statement.{statement}
 use Rattle.region.proofs.region_of.Tie as tie
-use Rattle.region.proofs.region_of.Reads as reads
-use Rattle.region.proofs.region_of.Lts as lts
 
 mul-t5 : tie.Need-mul-t5
 mul-t5 c = search needs

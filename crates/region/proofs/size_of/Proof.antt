@@ -1,13 +1,10 @@
 use Rattle.region.proofs.Sizes.{size-shifted, size-small}
 use Rattle.region.specs.Region.{sizeOf}
-use mathlib.Core.Path.{refl}
-use borrow.Author.Tests.{eq-eqb, ne-eqb, lt-leb}
+use borrow.Author.Tests.{ne-eqb, lt-leb}
 use native.Mathlib.Omega.{arith}
 use borrow.Author.Needs.{needs}
 use Rattle.region.proofs.size_of.Statement.{statement}
 use Rattle.region.proofs.size_of.Tie as tie
-use Rattle.region.proofs.size_of.Reads as reads
-use Rattle.region.proofs.size_of.Lts as lts
 
 returns : tie.Need-returns
 unfolding sizeOf

@@ -4,10 +4,6 @@ use mathlib.Core.Path.{sym, _∙_}
 use borrow.Author.Needs.{needs}
 use Rattle.region.proofs.Region.contains.Statement.{statement}
 use Rattle.region.proofs.Region.contains.Tie as tie
-use Rattle.region.proofs.Region.contains.Reads as reads
-use Rattle.region.proofs.Region.contains.Lts as lts
-use Rattle.region.proofs.Region.is_usable.Reads as is-usable-reads
-use Rattle.region.proofs.size_of.Reads as size-of-reads
 
 is-usable-requires : tie.Need-is-usable-requires
 is-usable-requires c κs = search needs

@@ -3,9 +3,6 @@ use borrow.Author.Tests.{le-leb, lt-leb}
 use borrow.Author.Needs.{needs}
 use Rattle.region.proofs.Region.is_usable.Statement.{statement}
 use Rattle.region.proofs.Region.is_usable.Tie as tie
-use Rattle.region.proofs.Region.is_usable.Reads as reads
-use Rattle.region.proofs.Region.is_usable.Lts as lts
-use Rattle.region.proofs.is_aligned.Reads as is-aligned-reads
 
 returns : tie.Need-returns
 unfolding usable
