@@ -4,12 +4,14 @@ use Prim.Native.Nat.{ℕ, zero, suc, _+_, _*_, _-_, _<_}
 use native.Mathlib.Omega.{arith}
 use mathlib.Core.Path.{_≡_, refl, _∙_}
 use mathlib.Core.Bool.{Bool, true, false, not, _&&_, and-eq-true-iff, and-false}
-use mathlib.Core.List.{List, [], _∷_}
+use mathlib.Core.List.{List, [], _∷_, flatMap}
 use native.Mathlib.Nat.{le-of-suc-le-suc, not-suc-le-zero}
 use lib.Dec.{eqb}
-use lib.ListN.{length, getD}
+use lib.ListN.{length}
 use borrow.Author.Tests.{eqb-true, not-true}
 use Rattle.region.specs.Region.{regionOf, sizeOf, usable}
+use Rattle.fields.specs.Fields.{numberBy, fieldAt, number, bytesOf}
+use Rattle.fields.proofs.Laws.{field-same}
 use Rattle.steps.specs.declared.Answer.the-variants.{Entered}
 use Rattle.steps.specs.declared.Interruption.{Interruption}
 use Rattle.steps.specs.declared.Step.the-variants.{Boundary}
@@ -19,11 +21,11 @@ use Rattle.config.proofs.Lock.{place-ends}
 use Rattle.header.specs.declared.Level.{Level}
 use Rattle.header.specs.declared.Registers.{Registers}
 use Rattle.header.specs.declared.Saved.{Saved}
-use Rattle.header.specs.Words.{number, wordBytes, bytesOf, wordAt}
 use Rattle.header.specs.Header.{levelNumber, sizeBits, cut, trapOf, headerBytes}
 use Rattle.header.specs.Entry.{entryCr0, entryCs}
 use Rattle.machine.specs.Service.{settingsOf, entry, boundary, savedAtBoundary}
-use Rattle.machine.specs.Steps.{programWhileHalted, performed}
+use Rattle.access.specs.Access.{programWhileHalted}
+use Rattle.machine.specs.Steps.{performed}
 use Rattle.isolation.specs.Service.{Entry}
 use Rattle.isolation.proofs.Service.{performs, enters-as-stated}
 use Rattle.bench.specs.Lines.{Line, Smar, IsUsable, LockedCcr1, HeaderAt, EntryCs, EntryCr0, LevelWord, Header, region, Before, regionBefore, outcome, Enters, Stores, below, holds, sheet, rowAt, SheetHolds}
@@ -75,13 +77,12 @@ module _ {current : ℕ} {i : Interruption} (b : Before current i) (u : usable (
   -- the header's word of selector and level, at a place that is 24 bytes into it
   level-word : (at : ℕ) → at ≡ below b 48 + 24 → (level : Level) (selector : ℕ) → b .machine .registers .level ≡ level
       → b .machine .registers .cs .selector ≡ selector
-      → wordAt (outcome b .memory .management) at ≡ number (wordBytes (selector + 2097152 * levelNumber level))
-  unfolding headerBytes bytesOf wordBytes wordAt
+      → fieldAt (outcome b .memory .management) at 4 ≡ number (bytesOf 4 (selector + 2097152 * levelNumber level))
+  unfolding headerBytes flatMap bytesOf numberBy
   level-word at h level selector e f =
-      let g : (j : ℕ) → j < 4 → getD (outcome b .memory .management) (at + j) 0 ≡ getD (headerBytes (savedAtBoundary (b .machine) current i)) (24 + j) 0
-      = λ j l. let a : at + j ≡ below b 48 + (24 + j) = omega arith in rw a (stores .header (24 + j) (omega arith)) in
-      let z : at ≡ at + 0 = omega arith in
-      rw (g 1 (omega arith), g 2 (omega arith), g 3 (omega arith), z, g 0 (omega arith), e, f)
+      let g : fieldAt (outcome b .memory .management) at 4 ≡ fieldAt (headerBytes (savedAtBoundary (b .machine) current i)) 24 4
+      = field-same (outcome b .memory .management) (headerBytes (savedAtBoundary (b .machine) current i)) at 24 4 (λ j l. let a : at + j ≡ below b 48 + (24 + j) = omega arith in rw a (stores .header (24 + j) (omega arith))) in
+      g ∙ rw (e, f)
 
 -- ---- the table
 
@@ -98,7 +99,7 @@ test (LockedCcr1 before value after) = eqb (merged (lockedBits 0xc1) before valu
 test (HeaderAt base code first last) = usable (region base code) && (eqb (sizeOf code - 48) first && eqb (first + 48) (last + 1))
 test (EntryCs base code selector) = usable (region base code) && eqb (entryCs base .selector) selector
 test (EntryCr0 before after) = eqb (entryCr0 before) after
-test (LevelWord level selector word) = eqb (number (wordBytes (selector + 2097152 * levelNumber level))) word
+test (LevelWord level selector word) = eqb (number (bytesOf 4 (selector + 2097152 * levelNumber level))) word
 test (Header registers current i bytes) =
     not (malformed (Boundary 1 current i)) && sameBytes (headerBytes (savedBefore registers current i)) bytes
 
@@ -148,7 +149,7 @@ rows (l ∷ ls) t zero h = sound l (and-eq-true-iff (test l) (every ls) .0 t .0)
 rows (l ∷ ls) t (suc k) h = rows ls (and-eq-true-iff (test l) (every ls) .0 t .1) k (le-of-suc-le-suc h)
 
 tested : every sheet ≡ true
-unfolding every test same sameBytes sheet regionOf sizeOf usable isWidth lockedBits mergedBits merged wordBytes bytesOf sizeBits cut headerBytes entryCr0 entryCs
+unfolding every test same sameBytes sheet regionOf sizeOf usable isWidth lockedBits mergedBits merged numberBy bytesOf flatMap sizeBits cut headerBytes entryCr0 entryCs
 tested = refl
 
 pub sheet-holds : SheetHolds

@@ -1,11 +1,12 @@
 -- 01, "Bench sheet": the P lines as one table, and the fact about the rules that each row states.
-use Prim.Native.Nat.{ℕ, _+_, _*_, _-_, _<_}
+use Prim.Native.Nat.{ℕ, _+_, _-_, _<_}
 use mathlib.Core.Path.{_≡_}
 use mathlib.Core.Bool.{Bool, true, false}
 use mathlib.Core.List.{List, [], _∷_}
 use lib.ListN.{length, getD}
 use Rattle.region.specs.declared.Region.{Region}
 use Rattle.region.specs.Region.{regionOf, sizeOf, usable}
+use Rattle.fields.specs.Fields.{fieldAt, number}
 use Rattle.memory.specs.Memory.{Memories}
 use Rattle.steps.specs.declared.Interruption.{Interruption}
 use Rattle.steps.specs.declared.Interruption.the-variants.{Output}
@@ -17,12 +18,12 @@ use Rattle.config.specs.Settings.{useSmi, smac, smiLock, regionIn, written}
 use Rattle.header.specs.declared.Level.{Level}
 use Rattle.header.specs.declared.Level.the-variants.{Zero, Three}
 use Rattle.header.specs.declared.Registers.{Registers}
-use Rattle.header.specs.Words.{number, wordAt}
 use Rattle.header.specs.Header.{headerBytes}
 use Rattle.machine.specs.declared.Machine.{Machine}
 use Rattle.machine.specs.Outcomes.{Outcome}
 use Rattle.machine.specs.Service.{settingsOf, savedAtBoundary}
-use Rattle.machine.specs.Steps.{wrongSizes, malformedOn, stepped}
+use Rattle.access.specs.Access.{wrongSizes, malformedOn}
+use Rattle.machine.specs.Steps.{stepped}
 use Rattle.isolation.specs.Service.{OnlyHeader}
 
 abbrev pub region : ℕ → ℕ → Region
@@ -61,7 +62,7 @@ pub record Before (current : ℕ) (i : Interruption) : Type 0 where
   pub on : useSmi (settingsOf machine) ≡ true
   pub closed : smac (settingsOf machine) ≡ false
   pub sizes : wrongSizes memory ≡ false
-  pub formed : malformedOn machine (Boundary 1 current i) ≡ false
+  pub formed : malformedOn (machine .halted) (Boundary 1 current i) ≡ false
 
 module _ {current : ℕ} {i : Interruption} (b : Before current i) where
   abbrev pub regionBefore : Region
@@ -100,7 +101,7 @@ holds (EntryCr0 before after) =
 holds (LevelWord level selector word) =
     (current : ℕ) (i : Interruption) (b : Before current i) → usable (regionBefore b) ≡ true
     → b .machine .registers .level ≡ level → b .machine .registers .cs .selector ≡ selector
-    → Enters b × (wordAt (outcome b .memory .management) (below b 0x18) ≡ word)
+    → Enters b × (fieldAt (outcome b .memory .management) (below b 0x18) 4 ≡ word)
 -- the first part: the row names a step that a machine can take
 holds (Header registers current i bytes) =
     (malformed (Boundary 1 current i) ≡ false)

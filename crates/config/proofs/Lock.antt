@@ -8,16 +8,13 @@ use borrow.Author.Tests.{eqb-true, eqb-false}
 use Rattle.region.specs.Region.{sizeOf, usable, within}
 use Rattle.region.proofs.Usable.{usable-has}
 use Rattle.config.specs.declared.Settings.{Settings}
-use Rattle.config.specs.Settings.{useSmi, smac, mmac, smiLock, regionIn, windowOf, enabled, headerPlace, byteOf, withByte, lockedBits, keptBits, mergedBits, merged, written, lockedPart, SameLocked}
+use Rattle.config.specs.Settings.{useSmi, smac, smiLock, regionIn, windowOf, enabled, headerPlace, byteOf, withByte, lockedBits, keptBits, mergedBits, merged, written, lockedPart, SameLocked}
 use Rattle.config.specs.Locked.{Fixed}
 
 -- ---- the same locked parts
 
 pub locked-refl : {s : Settings} → SameLocked s s
 locked-refl = record { same = λ i. refl }
-
-pub locked-sym : {s t : Settings} → SameLocked s t → SameLocked t s
-locked-sym e = record { same = λ i. sym (e .same i) }
 
 pub locked-trans : {s t u : Settings} → SameLocked s t → SameLocked t u → SameLocked s u
 locked-trans e f = record { same = λ i. e .same i ∙ f .same i }
@@ -42,7 +39,7 @@ bits-keep (suc n) mask old v w =
     bit-keeps (eqb (mask % 2) 1) old v w (mergedBits n (mask / 2) (old / 2) (v / 2)) (λ x. mergedBits n (mask / 2) x (w / 2))
     ∙ rw (bits-keep n (mask / 2) (old / 2) (v / 2) (w / 2))
 
-pub merged-keeps : (mask old v w : ℕ) → merged mask (merged mask old v) w ≡ merged mask old w
+merged-keeps : (mask old v w : ℕ) → merged mask (merged mask old v) w ≡ merged mask old w
 unfolding merged
 merged-keeps = bits-keep 8
 
@@ -144,31 +141,14 @@ fixed-locked {s} {t} hs ht ks kt f = record { same = λ i. go (eqb i 0xc1) (eqb 
 -- ---- what the locked settings decide
 
 module _ {s t : Settings} (f : Fixed s t) where
-  pub fixed-use-smi : useSmi s ≡ useSmi t
-  fixed-use-smi = let e : s .ccr1 / 2 % 2 ≡ t .ccr1 / 2 % 2 = omega arith in rw e
-
   pub fixed-smac : smac s ≡ smac t
   fixed-smac = let e : s .ccr1 / 4 % 2 ≡ t .ccr1 / 4 % 2 = omega arith in rw e
-
-  pub fixed-mmac : mmac s ≡ mmac t
-  fixed-mmac = let e : s .ccr1 / 8 % 2 ≡ t .ccr1 / 8 % 2 = omega arith in rw e
 
   pub fixed-lock : smiLock s ≡ smiLock t
   fixed-lock = let e : s .ccr3 % 2 ≡ t .ccr3 % 2 = omega arith in rw e
 
-  pub fixed-nmi : s .ccr3 / 2 % 2 ≡ t .ccr3 / 2 % 2
-  fixed-nmi = omega arith
-
-  pub fixed-region : regionIn s ≡ regionIn t
+  fixed-region : regionIn s ≡ regionIn t
   fixed-region = rw (f .high, f .middle, f .low)
-
-  pub fixed-window : (inside : Bool) → windowOf s inside ≡ windowOf t inside
-  unfolding windowOf
-  fixed-window inside = rw (fixed-use-smi, fixed-smac, fixed-mmac, fixed-region)
-
-  pub fixed-enabled : enabled s ≡ enabled t
-  unfolding enabled
-  fixed-enabled = rw (fixed-use-smi, fixed-smac, fixed-region)
 
   pub fixed-place : headerPlace s ≡ headerPlace t
   unfolding headerPlace

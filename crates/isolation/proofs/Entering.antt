@@ -1,6 +1,6 @@
 -- The header in a memory, and the steps that enter. Assumes nothing.
 use mathlib.Core.Path.{_≡_, refl, ap, _∙_}
-use mathlib.Core.Bool.{true, false, not, _||_, and-eq-true-iff}
+use mathlib.Core.Bool.{true, false, cond, _||_, and-eq-true-iff}
 use mathlib.Core.List.{List, [], _∷_, map}
 use Prim.Native.Nat.{ℕ, suc, _+_, _≤_, _<_}
 use native.Mathlib.Omega.{arith}
@@ -9,9 +9,10 @@ use lib.ListN.{length, getD, set}
 use lib.Seq.{sets, length-sets, getD-set-other}
 use borrow.Author.Tests.{eqb-true, eqb-false, not-false}
 use Rattle.region.specs.Region.{usable}
-use Rattle.memory.specs.Memory.{Memories, operandLength}
+use Rattle.memory.specs.declared.Operand.{Operand}
+use Rattle.memory.specs.Memory.{Memories, Reached, Attempt, operandLength, reads, writes, readsSegment, writesSegment}
 use Rattle.steps.specs.declared.Answer.{Answer}
-use Rattle.steps.specs.declared.Answer.the-variants.{Entered}
+use Rattle.steps.specs.declared.Answer.the-variants.{Done, Absent, Entered}
 use Rattle.steps.specs.declared.Interruption.{Interruption}
 use Rattle.steps.specs.declared.Step.{Step}
 use Rattle.steps.specs.declared.Step.the-variants.{Reset, Registers, Read, Write, PortRead, PortWrite, Opcode, Boundary, UnnamedBoundary, Halt, Wake}
@@ -24,10 +25,11 @@ use Rattle.opcodes.specs.declared.Operation.{Operation}
 use Rattle.opcodes.specs.declared.Operation.the-variants.{Save, Restore, Smint, Rsm, Undefined}
 use Rattle.opcodes.specs.Decode.{decoded}
 use Rattle.machine.specs.declared.Machine.{Machine}
-use Rattle.machine.specs.declared.Stepped.{Stepped}
 use Rattle.machine.specs.Outcomes.{Outcome, Managed, gives, ends, manages, over}
 use Rattle.machine.specs.Service.{settingsOf, entry, boundary, resume, permitted}
-use Rattle.machine.specs.Steps.{wrongSizes, malformedOn, programWhileHalted, valid, there, dataRead, dataWrite, saved, restored, operated, opcode, performed, stepped}
+use Rattle.access.specs.Access.{wrongSizes, malformedOn, programWhileHalted}
+use Rattle.machine.specs.Steps.{valid, stays, advanced, saved, restoredBy, restored, operated, opcode, performed, stepped}
+use Rattle.isolation.specs.Refusals.{there}
 use Rattle.isolation.specs.Service.{OnlyHeader, savedBy, latchAfter, Entering}
 use Rattle.isolation.specs.Service.Entering.{at-boundary, by-smint}
 use Rattle.isolation.proofs.Ports.{read-keeps, write-keeps}
@@ -97,10 +99,13 @@ module _ (m : Machine) (x : Memories) (sized : Sized x) where
   other s o e h = not-entered (o .stepped .answer) e h
 
   smint-enters : (op modrm a next : ℕ) (o : Operation) → decoded op modrm ≡ o → valid m o ≡ true → If (Opcode op modrm a next) (operated m x o a next)
-  unfolding operated saved restored resume valid permitted
-  smint-enters op modrm a next (Save name) d e = either (If _) (there m x a operandLength) (λ k. other _ _ refl) (λ k. other _ _ refl)
+  unfolding operated saved restored readsSegment writesSegment resume valid permitted
+  smint-enters op modrm a next (Save name) d e =
+      either
+      (λ (t : Attempt). If (Opcode op modrm a next) (ends (cond (t .made) (gives (advanced m next) Done) (gives m Absent)) (t .memory)))
+      (there m x a operandLength) (λ k. other _ _ refl) (λ k. other _ _ refl)
   smint-enters op modrm a next (Restore name) d e =
-      either (λ (r : Stepped). If (Opcode op modrm a next) (ends r x)) (there m x a operandLength) (λ k. other _ _ refl) (λ k. other _ _ refl)
+      either (λ (t : Operand). If (Opcode op modrm a next) (ends (restoredBy m name next t) x)) (there m x a operandLength) (λ k. other _ _ refl) (λ k. other _ _ refl)
   smint-enters op modrm a next Smint d e =
       let p = and-eq-true-iff _ _ .0 e .0 in
       let q = and-eq-true-iff _ _ .0 (and-eq-true-iff _ _ .0 p .0) .0 in
@@ -127,12 +132,14 @@ module _ (m : Machine) (x : Memories) (sized : Sized x) where
       (λ k. either (λ (a : Answer). P (manages (gives m a) (x .management))) asserted (λ l. other _ _ refl) (λ l. other _ _ refl)))
 
   performed-enters : (s : Step) → If s (performed m x s)
-  unfolding performed dataRead dataWrite opcode
+  unfolding performed reads writes opcode
   performed-enters Reset = other _ _ refl
   performed-enters (Registers eip eflags cr0 dr7 selector descriptor level writable) = other _ _ refl
   performed-enters (Read width a) =
-      either (λ (r : Stepped). If (Read width a) (ends r x)) (there m x a width) (λ k. other _ _ refl) (λ k. other _ _ refl)
-  performed-enters (Write width a v) = either (If _) (there m x a width) (λ k. other _ _ refl) (λ k. other _ _ refl)
+      either (λ (r : Answer). If (Read width a) (ends (gives m r) x)) (there m x a width) (λ k. other _ _ refl) (λ k. other _ _ refl)
+  performed-enters (Write width a v) =
+      either (λ (t : Reached). If (Write width a v) (stays m t)) (there m x a width)
+      (λ k. other _ _ refl) (λ k. other _ _ refl)
   performed-enters (PortRead port) = other _ _ (read-keeps (m .config) port .0 .other)
   performed-enters (PortWrite port v) = other _ _ (write-keeps (m .config) port v (m .inside) .0 .other)
   performed-enters (Opcode op modrm a next) =
@@ -149,5 +156,5 @@ unfolding stepped
 enters m x s =
     let P : Outcome → Type 0 = λ o. o .stepped .answer ≡ Entered → Enters m x s o in
     either P (wrongSizes x) (λ h. not-entered _ refl)
-    (λ h. either P (malformedOn m s) (λ k. not-entered _ refl)
-    (λ k. either P (programWhileHalted m s) (λ l. not-entered _ refl) (λ l. performed-enters m x (sizes x h) s)))
+    (λ h. either P (malformedOn (m .halted) s) (λ k. not-entered _ refl)
+    (λ k. either P (programWhileHalted (m .halted) s) (λ l. not-entered _ refl) (λ l. performed-enters m x (sizes x h) s)))

@@ -6,10 +6,11 @@ use Prim.Native.Nat.{ℕ, suc, _+_, _-_, _≤_, _<_}
 use native.Mathlib.Omega.{arith}
 use lib.Dec.{eqb}
 use lib.ListN.{length, take, length-take}
-use lib.Seq.{getD-take}
+use lib.Seq.{sets, getD-take}
 use Rattle.region.specs.Region.{within}
-use Rattle.memory.specs.Memory.{Memories, memories, load}
-use Rattle.memory.proofs.Laws.{storedMain, load-shut, store-shut}
+use Rattle.fields.specs.Fields.{fieldAt, bytesOf}
+use Rattle.memory.specs.Memory.{Memories, Reached, memories, load, store, reads, writes}
+use Rattle.memory.proofs.Laws.{load-out, store-all-out}
 use Rattle.steps.specs.declared.Answer.{Answer}
 use Rattle.steps.specs.declared.Answer.the-variants.{Done, WrongSize, Malformed, WhileHalted, Invalid, Absent, Value, Nothing, Ignored, Entered}
 use Rattle.steps.specs.declared.Interruption.{Interruption}
@@ -27,7 +28,9 @@ use Rattle.machine.specs.declared.Machine.{Machine}
 use Rattle.machine.specs.declared.Stepped.{Stepped}
 use Rattle.machine.specs.Outcomes.{Outcome, Managed, gives, ends, manages, over}
 use Rattle.machine.specs.Service.{settingsOf, savedAtBoundary, enteredMachine, entry, boundary, permitted}
-use Rattle.machine.specs.Steps.{wrongSizes, malformedOn, programWhileHalted, valid, window, there, ported, dataRead, dataWrite, opcode, performed, stepped, Run, run}
+use Rattle.access.specs.Access.{wrongSizes, malformedOn, programWhileHalted}
+use Rattle.machine.specs.Steps.{valid, window, ported, opcode, performed, stepped, Run, run}
+use Rattle.isolation.specs.Refusals.{there}
 use Rattle.isolation.specs.Service.{OnlyHeader}
 use Rattle.isolation.specs.Isolation.{Locked, NoReset, UpToEntry, lastAnswer, SameHeader, Agree, Isolated, throughEntry, SameAnswers}
 use Rattle.isolation.proofs.Ports.{read-keeps, write-keeps}
@@ -86,20 +89,24 @@ module _ (start : Machine) (from : Locked start) (g h : List ℕ) (main : List �
     kept : (n : Machine) → n .inside ≡ m .inside → SameLocked (settingsOf n) (settingsOf m) → Held start n
     kept n e k = record { outside = e ∙ held .outside; settings = locked-trans k (held .settings) }
 
-    read-one : (width a : ℕ)
-        → P (ends (dataRead m (memories main g) width a) (memories main g)) (ends (dataRead m (memories main h) width a) (memories main h))
-    unfolding dataRead there
+    read-one : (width a : ℕ) → P (performed m (memories main g) (Read width a)) (performed m (memories main h) (Read width a))
+    unfolding performed reads
     read-one width a =
-        both (λ (r q : Stepped). P (ends r (memories main g)) (ends q (memories main h))) (there m (memories main g) a width)
-        (λ k. rw (load-shut (window m) shut main g h a width) (stays (Value (load (window m) (memories main h) a width)) refl))
+        let found : (l : List ℕ) → load (window m) (memories main l) a width ≡ fieldAt main a width
+        = λ l. load-out (window m) (memories main l) a width (λ k p q. shut k) in
+        both (λ (r q : Answer). P (ends (gives m r) (memories main g)) (ends (gives m q) (memories main h))) (there m (memories main g) a width)
+        (λ k. rw (found g, found h) (stays (Value (fieldAt main a width)) refl))
         (λ k. stays Absent refl)
 
-    write-one : (width a v : ℕ) → P (dataWrite m (memories main g) width a v) (dataWrite m (memories main h) width a v)
-    unfolding dataWrite there
+    write-one : (width a v : ℕ) → P (performed m (memories main g) (Write width a v)) (performed m (memories main h) (Write width a v))
+    unfolding performed writes
     write-one width a v =
-        both P (there m (memories main g) a width)
-        (λ k. rw (store-shut (window m) shut main g a width v, store-shut (window m) shut main h a width v)
-        (quiet (gives m Done) (storedMain main a width v) refl held))
+        let left : (l : List ℕ) → store (window m) (memories main l) a width v ≡ memories (sets main a (bytesOf width v)) l
+        = λ l. store-all-out (window m) (memories main l) a width v (λ k p q. shut k) in
+        both
+        (λ (t u : Reached). P (ends (gives m (t .answer)) (t .memory)) (ends (gives m (u .answer)) (u .memory)))
+        (there m (memories main g) a width)
+        (λ k. rw (left g, left h) (quiet (gives m Done) (sets main a (bytesOf width v)) refl held))
         (λ k. stays Absent refl)
 
     port-one : (p : Accessed) → eqb (numberOf (p .answer)) 11 ≡ false → SameLocked (p .config .settings) (settingsOf m)
@@ -163,8 +170,8 @@ module _ (start : Machine) (from : Locked start) (g h : List ℕ) (main : List �
     step-one s e n =
         rw (sized-alike main g h e)
         (both P (wrongSizes (memories main h)) (λ k. stays WrongSize refl)
-        (λ k. both P (malformedOn m s) (λ l. stays Malformed refl)
-        (λ l. both P (programWhileHalted m s) (λ o. stays WhileHalted refl)
+        (λ k. both P (malformedOn (m .halted) s) (λ l. stays Malformed refl)
+        (λ l. both P (programWhileHalted (m .halted) s) (λ o. stays WhileHalted refl)
         (λ o. performed-one (e ∙ sizes _ k .management) e s n))))
 
 -- ---- a list of steps

@@ -3,9 +3,10 @@ use mathlib.Core.Path.{_≡_, refl}
 use mathlib.Core.Bool.{Bool, true, false, cond, not, _&&_, _||_, and-false}
 use Prim.Native.Nat.{ℕ}
 use lib.Dec.{eqb}
-use Rattle.memory.specs.Memory.{Memories, operandLength}
+use Rattle.memory.specs.declared.Operand.{Operand}
+use Rattle.memory.specs.Memory.{Memories, Reached, Attempt, operandLength, reads, writes, readsSegment, writesSegment}
 use Rattle.steps.specs.declared.Answer.{Answer}
-use Rattle.steps.specs.declared.Answer.the-variants.{WrongSize, Malformed, WhileHalted, Invalid, Absent}
+use Rattle.steps.specs.declared.Answer.the-variants.{Done, WrongSize, Malformed, WhileHalted, Invalid, Absent}
 use Rattle.steps.specs.declared.Step.{Step}
 use Rattle.steps.specs.declared.Step.the-variants.{Reset, Registers, Read, Write, PortRead, PortWrite, Opcode, Boundary, UnnamedBoundary, Halt, Wake}
 use Rattle.steps.specs.declared.Interruption.{Interruption}
@@ -15,11 +16,11 @@ use Rattle.opcodes.specs.declared.Operation.{Operation}
 use Rattle.opcodes.specs.declared.Operation.the-variants.{Save, Restore, Smint, Rsm, Undefined}
 use Rattle.opcodes.specs.Decode.{decoded}
 use Rattle.machine.specs.declared.Machine.{Machine}
-use Rattle.machine.specs.declared.Stepped.{Stepped}
 use Rattle.machine.specs.Outcomes.{Outcome, Managed, gives, ends, manages, over}
 use Rattle.machine.specs.Service.{settingsOf, entry, boundary, resume, permitted}
-use Rattle.machine.specs.Steps.{wrongSizes, malformedOn, programWhileHalted, valid, there, refused, dataRead, dataWrite, saved, restored, operated, opcode, performed, stepped}
-use Rattle.isolation.specs.Refusals.{invalidOpcode, hasOperand, absentByte, calledFor, RefusedAsCalledFor, RefusalChangesNothing}
+use Rattle.access.specs.Access.{wrongSizes, malformedOn, programWhileHalted}
+use Rattle.machine.specs.Steps.{valid, refused, stays, advanced, saved, restoredBy, restored, operated, opcode, performed, stepped}
+use Rattle.isolation.specs.Refusals.{there, invalidOpcode, hasOperand, absentByte, calledFor, RefusedAsCalledFor, RefusalChangesNothing}
 use Rattle.isolation.proofs.Ports.{read-keeps, write-keeps}
 use Rattle.isolation.proofs.Cases.{both, across, either, unlike}
 
@@ -37,10 +38,13 @@ module _ (m : Machine) (x : Memories) where
 
   operated-right : (o : Operation) (a next : ℕ) → valid m o ≡ true
       → Refused m x (operated m x o a next) (cond (hasOperand o && not (there m x a operandLength)) 5 0)
-  unfolding operated saved restored resume entry valid
-  operated-right (Save name) a next e = across (Refused m x) (there m x a operandLength) (takes _ refl) (refuses Absent refl)
+  unfolding operated saved restored readsSegment writesSegment resume entry valid
+  operated-right (Save name) a next e =
+      across
+      (λ (t : Attempt) (n : ℕ). Refused m x (ends (cond (t .made) (gives (advanced m next) Done) (gives m Absent)) (t .memory)) n)
+      (there m x a operandLength) (takes _ refl) (refuses Absent refl)
   operated-right (Restore name) a next e =
-      across (λ (r : Stepped) (n : ℕ). Refused m x (ends r x) n) (there m x a operandLength) (takes _ refl) (refuses Absent refl)
+      across (λ (t : Operand) (n : ℕ). Refused m x (ends (restoredBy m name next t) x) n) (there m x a operandLength) (takes _ refl) (refuses Absent refl)
   operated-right Smint a next e = takes _ refl
   operated-right Rsm a next e = takes _ refl
   operated-right Undefined a next e = unlike e (and-false (permitted m))
@@ -67,14 +71,15 @@ module _ (m : Machine) (x : Memories) where
       (λ k. either P (asserted || m .latched) (λ l. takes _ refl) (λ l. takes _ refl))
       (λ k. either (λ (a : Answer). P (manages (gives m a) (x .management))) asserted (λ l. takes _ refl) (λ l. takes _ refl)))
 
-  performed-right : (s : Step) → malformedOn m s ≡ false
+  performed-right : (s : Step) → malformedOn (m .halted) s ≡ false
       → Refused m x (performed m x s) (cond (invalidOpcode m s) 4 (cond (absentByte m x s) 5 0))
-  unfolding performed invalidOpcode absentByte dataRead dataWrite malformedOn
+  unfolding performed invalidOpcode absentByte reads writes malformedOn
   performed-right Reset e = takes _ refl
   performed-right (Registers eip eflags cr0 dr7 selector descriptor level writable) e = takes _ refl
   performed-right (Read width a) e =
-      across (λ (r : Stepped) (n : ℕ). Refused m x (ends r x) n) (there m x a width) (takes _ refl) (refuses Absent refl)
-  performed-right (Write width a v) e = across (Refused m x) (there m x a width) (takes _ refl) (refuses Absent refl)
+      across (λ (r : Answer) (n : ℕ). Refused m x (ends (gives m r) x) n) (there m x a width) (takes _ refl) (refuses Absent refl)
+  performed-right (Write width a v) e =
+      across (λ (t : Reached) (n : ℕ). Refused m x (stays m t) n) (there m x a width) (takes _ refl) (refuses Absent refl)
   performed-right (PortRead port) e = takes _ (read-keeps (m .config) port .0 .taken)
   performed-right (PortWrite port v) e = takes _ (write-keeps (m .config) port v (m .inside) .0 .taken)
   performed-right (Opcode op modrm a next) e = opcode-right (decoded op modrm) a next
@@ -87,8 +92,8 @@ module _ (m : Machine) (x : Memories) where
   unfolding stepped calledFor
   step-right s =
       both (Refused m x) (wrongSizes x) (λ h. refuses WrongSize refl)
-      (λ h. both (Refused m x) (malformedOn m s) (λ k. refuses Malformed refl)
-      (λ k. both (Refused m x) (programWhileHalted m s) (λ l. refuses WhileHalted refl) (λ l. performed-right s k)))
+      (λ h. both (Refused m x) (malformedOn (m .halted) s) (λ k. refuses Malformed refl)
+      (λ k. both (Refused m x) (programWhileHalted (m .halted) s) (λ l. refuses WhileHalted refl) (λ l. performed-right s k)))
 
 pub refused-as-called-for : RefusedAsCalledFor
 refused-as-called-for m x s = step-right m x s .number

@@ -19,7 +19,8 @@ use Rattle.opcodes.specs.Decode.{decoded}
 use Rattle.machine.specs.declared.Machine.{Machine}
 use Rattle.machine.specs.Outcomes.{Outcome, ends, over}
 use Rattle.machine.specs.Service.{settingsOf, entry, enteredMachine, resume, permitted}
-use Rattle.machine.specs.Steps.{wrongSizes, malformedOn, programWhileHalted, valid, operated, opcode, performed, stepped}
+use Rattle.access.specs.Access.{wrongSizes, malformedOn, programWhileHalted}
+use Rattle.machine.specs.Steps.{valid, operated, opcode, performed, stepped}
 use Rattle.isolation.specs.Service.{savedBy, latchAfter, Entry, EntersAsStated, Resume, ResumesAsEntered}
 use Rattle.isolation.proofs.Entering.{only-header, Enters, enters}
 
@@ -72,7 +73,7 @@ unfolding opcode valid operated
 rsm-operates m x a next inside may = rw (may, inside)
 
 -- a step that no refusal of 1 to 3 stops
-pub performs : (m : Machine) (x : Memories) (s : Step) → wrongSizes x ≡ false → malformedOn m s ≡ false → programWhileHalted m s ≡ false
+pub performs : (m : Machine) (x : Memories) (s : Step) → wrongSizes x ≡ false → malformedOn (m .halted) s ≡ false → programWhileHalted (m .halted) s ≡ false
     → stepped m x s ≡ performed m x s
 unfolding stepped
 performs m x s sizes formed awake = rw (sizes, formed, awake)

@@ -28,7 +28,8 @@ use Rattle.machine.specs.declared.Machine.{Machine}
 use Rattle.machine.specs.Machines.{machine}
 use Rattle.machine.specs.Outcomes.{Outcome, Managed, gives, ends, over}
 use Rattle.machine.specs.Service.{settingsOf, enteredMachine, entry, boundary}
-use Rattle.machine.specs.Steps.{wrongSizes, malformedOn, programWhileHalted, performed, stepped, Run, run}
+use Rattle.access.specs.Access.{wrongSizes, malformedOn, programWhileHalted}
+use Rattle.machine.specs.Steps.{performed, stepped, Run, run}
 use Rattle.isolation.specs.Service.{OnlyHeader, savedBy, latchAfter, Entry, Resume}
 use Rattle.isolation.specs.Isolation.{Locked, NoReset, UpToEntry, lastAnswer, Agree, Isolated}
 use Rattle.isolation.proofs.Cases.{either, unlike}
@@ -122,7 +123,7 @@ whole-list isolated m main g h ss from equal none =
 -- ---- entry takes place
 
 pub smi-enters : (m : Machine) (x : Memories) (current : ℕ) (i : Interruption) → wrongSizes x ≡ false
-    → malformedOn m (Boundary 1 current i) ≡ false → m .inside ≡ false → enabled (settingsOf m) ≡ true
+    → malformedOn (m .halted) (Boundary 1 current i) ≡ false → m .inside ≡ false → enabled (settingsOf m) ≡ true
     → stepped m x (Boundary 1 current i) .stepped .answer ≡ Entered
 unfolding programWhileHalted performed boundary entry
 smi-enters m x current i sizes formed outside on =

@@ -2,7 +2,8 @@
 use Prim.Native.Nat.{ℕ}
 use mathlib.Core.Path.{_≡_}
 use mathlib.Core.Bool.{Bool, true, false, cond, not, _&&_}
-use Rattle.memory.specs.Memory.{Memories, operandLength}
+use lib.ListN.{length}
+use Rattle.memory.specs.Memory.{Memories, allThere, operandLength}
 use Rattle.steps.specs.declared.Step.{Step}
 use Rattle.steps.specs.declared.Step.the-variants.{Reset, Registers, Read, Write, PortRead, PortWrite, Opcode, Boundary, UnnamedBoundary, Halt, Wake}
 use Rattle.steps.specs.Answers.{numberOf, refusal}
@@ -10,7 +11,8 @@ use Rattle.opcodes.specs.declared.Operation.{Operation}
 use Rattle.opcodes.specs.declared.Operation.the-variants.{Save, Restore, Smint, Rsm, Undefined}
 use Rattle.opcodes.specs.Decode.{decoded}
 use Rattle.machine.specs.declared.Machine.{Machine}
-use Rattle.machine.specs.Steps.{wrongSizes, malformedOn, programWhileHalted, valid, there, stepped}
+use Rattle.access.specs.Access.{wrongSizes, malformedOn, programWhileHalted}
+use Rattle.machine.specs.Steps.{valid, window, stepped}
 
 -- 4: an opcode step whose operation is not valid
 unfoldable pub invalidOpcode : Machine → Step → Bool
@@ -34,6 +36,10 @@ hasOperand Smint = false
 hasOperand Rsm = false
 hasOperand Undefined = false
 
+-- a memory answers each of count bytes from a on
+abbrev pub there : Machine → Memories → ℕ → ℕ → Bool
+there m x a count = allThere (window m) (length (x .main)) a count
+
 -- 5: a data or an operand byte that no memory answers
 unfoldable pub absentByte : Machine → Memories → Step → Bool
 absentByte m x Reset = false
@@ -52,8 +58,8 @@ absentByte m x Wake = false
 unfoldable pub calledFor : Machine → Memories → Step → ℕ
 calledFor m x s =
     cond (wrongSizes x) 1
-    (cond (malformedOn m s) 2
-    (cond (programWhileHalted m s) 3
+    (cond (malformedOn (m .halted) s) 2
+    (cond (programWhileHalted (m .halted) s) 3
     (cond (invalidOpcode m s) 4
     (cond (absentByte m x s) 5 0))))
 

@@ -2,11 +2,11 @@
 use Prim.Native.Nat.{ℕ}
 use mathlib.Core.Bool.{Bool, true, false}
 use mathlib.Core.List.{[], _∷_}
+use Rattle.fields.specs.Fields.{numberBy, number}
 use Rattle.memory.specs.declared.Segment.{Segment}
 use Rattle.config.specs.declared.Config.{Config}
 use Rattle.header.specs.declared.Registers.{Registers}
 use Rattle.header.specs.declared.Level.the-variants.{Zero}
-use Rattle.header.specs.Words.{number}
 use Rattle.opcodes.specs.declared.SegmentName.{SegmentName}
 use Rattle.opcodes.specs.declared.SegmentName.the-variants.{Es, Cs, Ss, Ds, Fs, Gs, Ldtr, Tr}
 use Rattle.machine.specs.declared.Segments.{Segments}
@@ -83,6 +83,7 @@ resetSegments =
 
 -- "Configuration, flags and index become zero and disarmed"
 unfoldable pub resetMachine : Machine
+unfolding numberBy
 resetMachine =
     machine resetRegisters resetSegments false false false
     (record { settings = record { ccr1 = 0; ccr3 = 0; high = 0; middle = 0; low = 0 }; index = 0; armed = false })

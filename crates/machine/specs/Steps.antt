@@ -1,16 +1,17 @@
 -- 01, "The steps" and "Numbers the bench sees": one step of a machine over its two memories, and a list of them.
 use Prim.Native.Nat.{ℕ}
-use mathlib.Core.Bool.{Bool, true, false, cond, not, _&&_, _||_}
+use mathlib.Core.Bool.{Bool, true, false, cond, _&&_}
 use mathlib.Core.List.{List, [], _∷_}
-use lib.Dec.{eqb, leb}
-use lib.ListN.{length}
+use lib.Dec.{eqb}
 use Rattle.region.specs.declared.Region.{Region}
-use Rattle.memory.specs.Memory.{Memories, allThere, load, store, operandLength, segmentAt, storeSegment}
+use Rattle.memory.specs.declared.Operand.{Operand}
+use Rattle.memory.specs.declared.Operand.the-variants.{Whole, Cut}
+use Rattle.memory.specs.Memory.{Memories, Reached, reads, writes, readsSegment, writesSegment}
+use Rattle.access.specs.Access.{refusing}
 use Rattle.steps.specs.declared.Answer.{Answer}
-use Rattle.steps.specs.declared.Answer.the-variants.{Done, WrongSize, Malformed, WhileHalted, Invalid, Absent, Value}
+use Rattle.steps.specs.declared.Answer.the-variants.{Done, Malformed, Invalid, Absent}
 use Rattle.steps.specs.declared.Step.{Step}
 use Rattle.steps.specs.declared.Step.the-variants.{Reset, Registers, Read, Write, PortRead, PortWrite, Opcode, Boundary, UnnamedBoundary, Halt, Wake}
-use Rattle.steps.specs.Steps.{malformed, interrupts, program}
 use Rattle.config.specs.Settings.{windowOf}
 use Rattle.config.specs.Ports.{portRead, portWrite}
 use Rattle.config.specs.declared.Accessed.{Accessed}
@@ -25,18 +26,6 @@ use Rattle.machine.specs.Machines.{withRegisters, withHalted, withConfig
 use Rattle.machine.specs.Outcomes.{Outcome, gives, ends, over}
 use Rattle.machine.specs.Service.{settingsOf, entryBySmint, boundary, resume, permitted}
 
--- 1: "Main memory ... may be 0 to 1,048,576 bytes. Management memory is exactly 65,536 bytes."
-unfoldable pub wrongSizes : Memories → Bool
-wrongSizes x = not (leb (length (x .main)) 1048576 && eqb (length (x .management)) 65536)
-
--- 2: "malformed step: a width, size, level or yes/no value outside its set, or an interruption other than none while halted"
-unfoldable pub malformedOn : Machine → Step → Bool
-malformedOn m s = malformed s || (m .halted && interrupts s)
-
--- 3: "program step (registers, data, port, opcode, halt) while halted"
-unfoldable pub programWhileHalted : Machine → Step → Bool
-programWhileHalted m s = m .halted && program s
-
 -- 4: "invalid opcode" is one that is not valid
 unfoldable pub valid : Machine → Operation → Bool
 valid m o = permitted m && allowed (m .inside) o
@@ -44,10 +33,6 @@ valid m o = permitted m && allowed (m .inside) o
 -- "Routing": the region whose bytes management memory answers
 abbrev pub window : Machine → Region
 window m = windowOf (settingsOf m) (m .inside)
-
--- 5: "a data or operand byte routed to main beyond its end, or above FFFFFFFFh", where not all are there
-unfoldable pub there : Machine → Memories → ℕ → ℕ → Bool
-there m x a count = allThere (window m) (length (x .main)) a count
 
 -- a refusal: "machine and memories stay"
 abbrev pub refused : Machine → Memories → Answer → Outcome
@@ -66,12 +51,9 @@ setRegisters m eip eflags cr0 dr7 selector descriptor level writable =
       writable = eqb writable 1;
     })
 
--- "Data read or write. Width 1, 2 or 4, little-endian, low bytes of the value."
-unfoldable pub dataRead : Machine → Memories → ℕ → ℕ → Stepped
-dataRead m x width a = cond (there m x a width) (gives m (Value (load (window m) x a width))) (gives m Absent)
-
-unfoldable pub dataWrite : Machine → Memories → ℕ → ℕ → ℕ → Outcome
-dataWrite m x width a v = cond (there m x a width) (ends (gives m Done) (store (window m) x a width v)) (refused m x Absent)
+-- an access that leaves the machine as it is
+abbrev pub stays : Machine → Reached → Outcome
+stays m r = ends (gives m (r .answer)) (r .memory)
 
 -- "Port read or write, one byte."
 abbrev pub ported : Machine → Accessed → Stepped
@@ -84,15 +66,15 @@ advanced m next = withRegisters m (withEip (m .registers) next)
 -- a valid operation. "The operand is 10 bytes"; SMINT and RSM have none.
 unfoldable pub saved : Machine → Memories → SegmentName → ℕ → ℕ → Outcome
 saved m x name a next =
-    cond (there m x a operandLength)
-    (ends (gives (advanced m next) Done) (storeSegment (window m) x a (segmentIn m name)))
-    (refused m x Absent)
+    let t = writesSegment (window m) x a (segmentIn m name) in
+    ends (cond (t .made) (gives (advanced m next) Done) (gives m Absent)) (t .memory)
+
+abbrev pub restoredBy : Machine → SegmentName → ℕ → Operand → Stepped
+restoredBy m name next (Whole s) = gives (advanced (withSegment m name s) next) Done
+restoredBy m name next Cut = gives m Absent
 
 unfoldable pub restored : Machine → Memories → SegmentName → ℕ → ℕ → Stepped
-restored m x name a next =
-    cond (there m x a operandLength)
-    (gives (advanced (withSegment m name (segmentAt (window m) x a)) next) Done)
-    (gives m Absent)
+restored m x name a next = restoredBy m name next (readsSegment (window m) x a)
 
 unfoldable pub operated : Machine → Memories → Operation → ℕ → ℕ → Outcome
 operated m x (Save name) a next = saved m x name a next
@@ -109,8 +91,9 @@ unfoldable pub performed : Machine → Memories → Step → Outcome
 performed m x Reset = ends (gives resetMachine Done) x
 performed m x (Registers eip eflags cr0 dr7 selector descriptor level writable) =
     ends (gives (setRegisters m eip eflags cr0 dr7 selector descriptor level writable) Done) x
-performed m x (Read width a) = ends (dataRead m x width a) x
-performed m x (Write width a v) = dataWrite m x width a v
+-- "Data read or write. Width 1, 2 or 4, little-endian, low bytes of the value."
+performed m x (Read width a) = ends (gives m (reads (window m) x a width)) x
+performed m x (Write width a v) = stays m (writes (window m) x a width v)
 performed m x (PortRead port) = ends (ported m (portRead (m .config) port)) x
 performed m x (PortWrite port v) = ends (ported m (portWrite (m .config) port v (m .inside))) x
 performed m x (Opcode op modrm a next) = opcode m x (decoded op modrm) a next
@@ -121,10 +104,7 @@ performed m x Wake = ends (gives (withHalted m false) Done) x
 
 -- "Numbers 1 to 5 are refusals, tested in that order; machine and memories stay."
 unfoldable pub stepped : Machine → Memories → Step → Outcome
-stepped m x s =
-    cond (wrongSizes x) (refused m x WrongSize)
-    (cond (malformedOn m s) (refused m x Malformed)
-    (cond (programWhileHalted m s) (refused m x WhileHalted) (performed m x s)))
+stepped m x s = refusing (refused m x) (m .halted) x s (performed m x s)
 
 -- a list of steps, "each step on what the one before left": the last machine and memories, and every answer in order
 pub record Run : Type 0 where

@@ -1,18 +1,18 @@
 ghost use mathlib.Core.Path.{_≡_};
-ghost use mathlib.Core.Bool.{true, false, cond};
+ghost use mathlib.Core.Bool.{true, false, cond, _||_};
 ghost use Rattle.memory.specs.Memory.{memories};
-ghost use Rattle.steps.specs.Steps.{isWidth, malformed};
+ghost use Rattle.steps.specs.Steps.{malformed};
 ghost use Rattle.machine.specs.Machines.{withRegisters, withHalted, withLatched, withSegments, segmentIn, withSegment, segment, resetMachine};
 ghost use Rattle.machine.specs.Outcomes.{gives, ends, manages};
 ghost use Rattle.machine.specs.Service.{enteredMachine, entry, entryAtBoundary, entryBySmint, boundary, resume, permitted};
-ghost use Rattle.machine.specs.Steps.{malformedOn, programWhileHalted, window, dataRead, dataWrite, ported, valid, advanced, saved, restored, opcode, performed, stepped};
+ghost use Rattle.machine.specs.Steps.{window, ported, valid, advanced, saved, restored, opcode, performed, stepped};
+use access::Reply;
 use config::Accessed;
 use config::Config;
 use config::Settings;
 use header::Level;
 use header::Registers;
 use header::Saved;
-use memory::Loaded;
 use memory::Operand;
 use memory::Segment;
 use opcodes::Operation;
@@ -129,7 +129,7 @@ impl Machine {
         next
     }
 
-    fn set_registers(self, registers: Registers) -> Machine
+    fn with_registers(self, registers: Registers) -> Machine
         ensures { λ r. ⌜ r ≡ withRegisters self registers ⌝ }
     {
         let mut next = self;
@@ -143,7 +143,7 @@ impl Machine {
     {
         let mut registers = self.registers;
         registers.eip = next;
-        self.set_registers(registers)
+        self.with_registers(registers)
     }
 
     fn segment(self, name: SegmentName) -> Segment
@@ -171,7 +171,7 @@ impl Machine {
         next
     }
 
-    fn set_segment(self, name: SegmentName, value: Segment) -> Machine
+    fn with_segment(self, name: SegmentName, value: Segment) -> Machine
         ensures { λ r. ⌜ r ≡ withSegment self name value ⌝ }
     {
         let mut s = self.segments;
@@ -207,7 +207,7 @@ impl Machine {
             }
             SegmentName::Cs => {
                 r.cs = value;
-                self.set_registers(r)
+                self.with_registers(r)
             }
         }
     }
@@ -220,7 +220,7 @@ impl Machine {
         let settings = config.settings;
         let area = settings.region();
         let before = self.registers;
-        let mut next = self.set_registers(header::entry_registers(before, area.base));
+        let mut next = self.with_registers(header::entry_registers(before, area.base));
         next.halted = false;
         next.inside = true;
         next.latched = latched;
@@ -293,10 +293,7 @@ impl Machine {
         let config = self.config;
         let settings = config.settings;
         if settings.enables_smi() {
-            if asserted {
-                return self.enter_at_boundary(management, current, interruption);
-            }
-            if self.latched {
+            if any(asserted, self.latched) {
                 return self.enter_at_boundary(management, current, interruption);
             }
             return self.answers(Answer::Nothing);
@@ -314,7 +311,7 @@ impl Machine {
         let config = self.config;
         let settings = config.settings;
         let registers = header::read(management, settings.header_place());
-        let mut next = self.set_registers(registers);
+        let mut next = self.with_registers(registers);
         next.halted = false;
         next.inside = false;
         next.answers(Answer::Resumed)
@@ -344,39 +341,13 @@ impl Machine {
         false
     }
 
-    fn window(self) -> Region
+    // The region whose bytes management memory answers.
+    pub fn window(self) -> Region
         ensures { λ r. ⌜ r ≡ window self ⌝ }
     {
         let config = self.config;
         let settings = config.settings;
         settings.window(self.inside)
-    }
-
-    fn read(self, main: &[u8], management: &[u8], width: u8, address: u32) -> Stepped
-        requires { ⌜ isWidth width ≡ true ⌝ }
-        ensures { λ r. ⌜ r ≡ dataRead self (memories (now (main .entry)) (now (management .entry))) width address ⌝ }
-    {
-        match memory::read(self.window(), main, management, address, width) {
-            Loaded::Value(v) => self.answers(Answer::Value(v)),
-            Loaded::Beyond => self.answers(Answer::Absent),
-        }
-    }
-
-    fn write(
-        self,
-        main: &mut [u8],
-        management: &mut [u8],
-        width: u8,
-        address: u32,
-        value: u32,
-    ) -> Stepped
-        ensures { λ r. ⌜ ends r (memories (now (main .exit)) (now (management .exit)))
-            ≡ dataWrite self (memories (now (main .entry)) (now (management .entry))) width address value ⌝ }
-    {
-        if memory::write(self.window(), main, management, address, width, value) {
-            return self.answers(Answer::Done);
-        }
-        self.answers(Answer::Absent)
     }
 
     // SVDC, SVLDT and SVTS.
@@ -410,7 +381,7 @@ impl Machine {
         ensures { λ r. ⌜ r ≡ restored self (memories (now (main .entry)) (now (management .entry))) name address next ⌝ }
     {
         match memory::read_segment(self.window(), main, management, address) {
-            Operand::Whole(s) => self.set_segment(name, s)
+            Operand::Whole(s) => self.with_segment(name, s)
                 .advance(next)
                 .answers(Answer::Done),
             Operand::Cut => self.answers(Answer::Absent),
@@ -490,14 +461,20 @@ impl Machine {
                     level: l,
                     writable: writable == 1,
                 };
-                self.set_registers(registers).answers(Answer::Done)
+                self.with_registers(registers).answers(Answer::Done)
             }
-            Step::Read { width, address } => self.read(main, management, width, address),
+            Step::Read { width, address } => {
+                let window = self.window();
+                self.answers(memory::read(window, main, management, address, width))
+            }
             Step::Write {
                 width,
                 address,
                 value,
-            } => self.write(main, management, width, address, value),
+            } => {
+                let window = self.window();
+                self.answers(memory::write(window, main, management, address, width, value))
+            }
             Step::PortRead { port } => {
                 let config = self.config;
                 self.ported(config.read(port))
@@ -529,42 +506,22 @@ impl Machine {
         }
     }
 
-    // Whether the step is malformed for this machine.
-    fn finds_malformed(self, s: Step) -> bool
-        ensures { λ r. ⌜ r ≡ malformedOn self s ⌝ }
-    {
-        if s.is_malformed() {
-            return true;
-        }
-        if self.halted { s.interrupts() } else { false }
-    }
-
-    // Whether the step is one that this machine refuses while halted.
-    fn refuses_while_halted(self, s: Step) -> bool
-        ensures { λ r. ⌜ r ≡ programWhileHalted self s ⌝ }
-    {
-        if self.halted { s.is_program() } else { false }
-    }
-
     // One step. Refusals are tested in the order of their numbers.
     pub fn step(self, main: &mut [u8], management: &mut [u8], s: Step) -> Stepped
         ensures { λ r. ⌜ ends r (memories (now (main .exit)) (now (management .exit)))
             ≡ stepped self (memories (now (main .entry)) (now (management .entry))) s ⌝ }
     {
-        if 1048576 < main.len() {
-            return self.answers(Answer::WrongSize);
+        match access::early_refusal(self.halted, main, management, s) {
+            Reply::Answered(a) => self.answers(a),
+            Reply::Deferred => self.perform(main, management, s),
         }
-        if management.len() != 65536 {
-            return self.answers(Answer::WrongSize);
-        }
-        if self.finds_malformed(s) {
-            return self.answers(Answer::Malformed);
-        }
-        if self.refuses_while_halted(s) {
-            return self.answers(Answer::WhileHalted);
-        }
-        self.perform(main, management, s)
     }
+}
+
+fn any(a: bool, b: bool) -> bool
+    ensures { λ r. ⌜ r ≡ (a || b) ⌝ }
+{
+    if a { true } else { b }
 }
 
 fn either(b: bool, x: u32, y: u32) -> u32

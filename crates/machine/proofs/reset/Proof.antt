@@ -2,9 +2,6 @@ use Rattle.machine.specs.Machines.{resetMachine}
 use borrow.Author.Needs.{needs}
 use Rattle.machine.proofs.reset.Statement.{statement}
 use Rattle.machine.proofs.reset.Tie as tie
-use Rattle.machine.proofs.reset.Reads as reads
-use Rattle.machine.proofs.reset.Lts as lts
-use Rattle.machine.proofs.segment_of.Reads as segment-of-reads
 
 segment-of-requires : tie.Need-segment-of-requires
 segment-of-requires c κs = search needs

@@ -2,8 +2,6 @@ use Rattle.opcodes.specs.Decode.{dataSegment}
 use borrow.Author.Tests.{ne-eqb}
 use Rattle.opcodes.proofs.data_segment.Statement.{statement}
 use Rattle.opcodes.proofs.data_segment.Tie as tie
-use Rattle.opcodes.proofs.data_segment.Reads as reads
-use Rattle.opcodes.proofs.data_segment.Lts as lts
 
 returns : tie.Need-returns
 unfolding dataSegment

@@ -3,9 +3,6 @@ use borrow.Author.Tests.{eq-eqb, ne-eqb}
 use borrow.Author.Needs.{needs}
 use Rattle.opcodes.proofs.decode.Statement.{statement}
 use Rattle.opcodes.proofs.decode.Tie as tie
-use Rattle.opcodes.proofs.decode.Reads as reads
-use Rattle.opcodes.proofs.decode.Lts as lts
-use Rattle.opcodes.proofs.grouped_of.Reads as grouped-of-reads
 
 returns : tie.Need-returns
 unfolding decoded

@@ -3,11 +3,6 @@ use borrow.Author.Tests.{ne-eqb}
 use borrow.Author.Needs.{needs}
 use Rattle.opcodes.proofs.grouped_of.Statement.{statement}
 use Rattle.opcodes.proofs.grouped_of.Tie as tie
-use Rattle.opcodes.proofs.grouped_of.Reads as reads
-use Rattle.opcodes.proofs.grouped_of.Lts as lts
-use Rattle.opcodes.proofs.plain_of.Reads as plain-of-reads
-use Rattle.opcodes.proofs.rsdc_of.Reads as rsdc-of-reads
-use Rattle.opcodes.proofs.svdc_of.Reads as svdc-of-reads
 
 svdc-of-requires : tie.Need-svdc-of-requires
 svdc-of-requires c κs = search needs

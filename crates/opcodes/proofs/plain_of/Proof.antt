@@ -1,8 +1,6 @@
 use borrow.Author.Tests.{eq-eqb, ne-eqb}
 use Rattle.opcodes.proofs.plain_of.Statement.{statement}
 use Rattle.opcodes.proofs.plain_of.Tie as tie
-use Rattle.opcodes.proofs.plain_of.Reads as reads
-use Rattle.opcodes.proofs.plain_of.Lts as lts
 
 returns : tie.Need-returns
 returns c = rw (eq-eqb _ _ (c .if1 .taken))

@@ -2,9 +2,6 @@ use borrow.Author.Tests.{eq-eqb, ne-eqb, lt-ltb, le-ltb}
 use borrow.Author.Needs.{needs}
 use Rattle.opcodes.proofs.rsdc_of.Statement.{statement}
 use Rattle.opcodes.proofs.rsdc_of.Tie as tie
-use Rattle.opcodes.proofs.rsdc_of.Reads as reads
-use Rattle.opcodes.proofs.rsdc_of.Lts as lts
-use Rattle.opcodes.proofs.data_segment.Reads as data-segment-reads
 
 returns : tie.Need-returns
 returns c = rw (eq-eqb _ _ (c .if1 .taken))

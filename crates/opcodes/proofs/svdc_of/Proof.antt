@@ -2,9 +2,6 @@ use borrow.Author.Tests.{lt-ltb, le-ltb}
 use borrow.Author.Needs.{needs}
 use Rattle.opcodes.proofs.svdc_of.Statement.{statement}
 use Rattle.opcodes.proofs.svdc_of.Tie as tie
-use Rattle.opcodes.proofs.svdc_of.Reads as reads
-use Rattle.opcodes.proofs.svdc_of.Lts as lts
-use Rattle.opcodes.proofs.data_segment.Reads as data-segment-reads
 
 data-segment-requires : tie.Need-data-segment-requires
 data-segment-requires c κs = search needs

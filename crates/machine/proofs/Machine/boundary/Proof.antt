@@ -1,14 +1,8 @@
+use mathlib.Core.Path.{sym, _∙_}
 use Rattle.machine.specs.Service.{boundary}
-use mathlib.Core.Path.{sym}
 use borrow.Author.Needs.{needs}
 use Rattle.machine.proofs.Machine.boundary.Statement.{statement}
 use Rattle.machine.proofs.Machine.boundary.Tie as tie
-use Rattle.machine.proofs.Machine.boundary.Reads as reads
-use Rattle.machine.proofs.Machine.boundary.Lts as lts
-use Rattle.config.proofs.Settings.enables_smi.Reads as enables-smi-reads
-use Rattle.machine.proofs.Machine.answers.Reads as answers-reads
-use Rattle.machine.proofs.Machine.enter_at_boundary.Reads as enter-at-boundary-reads
-use Rattle.machine.proofs.Machine.with_latched.Reads as with-latched-reads
 
 with-latched-requires : tie.Need-with-latched-requires
 with-latched-requires c κs = search needs
@@ -30,6 +24,9 @@ returns-2 c = simp ((c .before .before .if1 .taken), (c .before .if2 .left), (c 
 enables-smi-requires : tie.Need-enables-smi-requires
 enables-smi-requires c κs = search needs
 
+any-requires : tie.Need-any-requires
+any-requires c κs = search needs
+
 enter-at-boundary-requires : tie.Need-enter-at-boundary-requires
 enter-at-boundary-requires c κs = search needs
 
@@ -38,38 +35,28 @@ same-length c = search needs
 
 returns-3 : tie.Need-returns-3
 unfolding boundary
-returns-3 c = simp ((c .before .before .before .before .before .before .before .before .before .if1 .left), sym (c .before .before .before .before .before .before .enables-smi .ensures), (c .before .before .before .before .before .if3 .taken), (c .before .before .before .before .if4 .taken)) (c .before .before .enter-at-boundary .ensures)
-
-enter-at-boundary-requires-2 : tie.Need-enter-at-boundary-requires-2
-enter-at-boundary-requires-2 c κs = search needs
-
-same-length-2 : tie.Need-same-length-2
-same-length-2 c = search needs
-
-returns-4 : tie.Need-returns-4
-unfolding boundary
-returns-4 c = simp ((c .before .before .before .before .before .before .before .before .before .before .if1 .left), sym (c .before .before .before .before .before .before .before .enables-smi .ensures), (c .before .before .before .before .before .before .if3 .taken), (c .before .before .before .before .before .if4 .left), (c .before .before .before .before .if5 .taken)) (c .before .before .enter-at-boundary2 .ensures)
+returns-3 c = simp ((c .before .before .before .before .before .before .before .before .before .before .if1 .left), sym (c .before .before .before .before .before .before .before .enables-smi .ensures), (c .before .before .before .before .before .before .if3 .taken), sym (c .before .before .before .before .before .any .ensures) ∙ (c .before .before .before .before .if4 .taken)) (c .before .before .enter-at-boundary .ensures)
 
 answers-requires-3 : tie.Need-answers-requires-3
 answers-requires-3 c κs = search needs
 
-returns-5 : tie.Need-returns-5
+returns-4 : tie.Need-returns-4
 unfolding boundary
-returns-5 c = simp ((c .before .before .before .before .before .before .before .if1 .left), sym (c .before .before .before .before .enables-smi .ensures), (c .before .before .before .if3 .taken), (c .before .before .if4 .left), (c .before .if5 .left), (c .answers3 .ensures))
+returns-4 c = simp ((c .before .before .before .before .before .before .before .if1 .left), sym (c .before .before .before .before .enables-smi .ensures), (c .before .before .before .if3 .taken), sym (c .before .before .any .ensures) ∙ (c .before .if4 .left), (c .answers3 .ensures))
 
 answers-requires-4 : tie.Need-answers-requires-4
 answers-requires-4 c κs = search needs
 
-returns-6 : tie.Need-returns-6
+returns-5 : tie.Need-returns-5
 unfolding boundary
-returns-6 c = simp ((c .before .before .before .before .before .before .if1 .left), sym (c .before .before .before .enables-smi .ensures), (c .before .before .if3 .left), (c .before .if6 .taken), (c .answers4 .ensures))
+returns-5 c = simp ((c .before .before .before .before .before .before .if1 .left), sym (c .before .before .before .enables-smi .ensures), (c .before .before .if3 .left), (c .before .if5 .taken), (c .answers4 .ensures))
 
 answers-requires-5 : tie.Need-answers-requires-5
 answers-requires-5 c κs = search needs
 
-returns-7 : tie.Need-returns-7
+returns-6 : tie.Need-returns-6
 unfolding boundary
-returns-7 c = simp ((c .before .before .before .before .before .before .if1 .left), sym (c .before .before .before .enables-smi .ensures), (c .before .before .if3 .left), (c .before .if6 .left), (c .answers5 .ensures))
+returns-6 c = simp ((c .before .before .before .before .before .before .if1 .left), sym (c .before .before .before .enables-smi .ensures), (c .before .before .if3 .left), (c .before .if5 .left), (c .answers5 .ensures))
 
 pub boundary-spec : {M : Type 1} → statement M
 boundary-spec =
@@ -81,15 +68,13 @@ boundary-spec =
     answers-requires-2
     returns-2
     enables-smi-requires
+    any-requires
     enter-at-boundary-requires
     same-length
     returns-3
-    enter-at-boundary-requires-2
-    same-length-2
-    returns-4
     answers-requires-3
-    returns-5
+    returns-4
     answers-requires-4
-    returns-6
+    returns-5
     answers-requires-5
-    returns-7)
+    returns-6)

@@ -2,12 +2,6 @@ use Rattle.machine.specs.Service.{entry}
 use borrow.Author.Needs.{needs}
 use Rattle.machine.proofs.Machine.enter.Statement.{statement}
 use Rattle.machine.proofs.Machine.enter.Tie as tie
-use Rattle.machine.proofs.Machine.enter.Reads as reads
-use Rattle.machine.proofs.Machine.enter.Lts as lts
-use Rattle.config.proofs.Settings.header_place.Reads as header-place-reads
-use Rattle.header.proofs.write.Reads as write-reads
-use Rattle.machine.proofs.Machine.answers.Reads as answers-reads
-use Rattle.machine.proofs.Machine.entered.Reads as entered-reads
 
 header-place-requires : tie.Need-header-place-requires
 header-place-requires c κs = search needs

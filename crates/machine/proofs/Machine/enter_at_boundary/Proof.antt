@@ -1,11 +1,6 @@
 use borrow.Author.Needs.{needs}
 use Rattle.machine.proofs.Machine.enter_at_boundary.Statement.{statement}
 use Rattle.machine.proofs.Machine.enter_at_boundary.Tie as tie
-use Rattle.machine.proofs.Machine.enter_at_boundary.Reads as reads
-use Rattle.machine.proofs.Machine.enter_at_boundary.Lts as lts
-use Rattle.header.proofs.trap_of.Reads as trap-of-reads
-use Rattle.machine.proofs.Machine.enter.Reads as enter-reads
-use Rattle.machine.proofs.either.Reads as either-reads
 
 trap-of-requires : tie.Need-trap-of-requires
 trap-of-requires c κs = search needs

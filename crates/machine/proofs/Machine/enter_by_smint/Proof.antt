@@ -1,11 +1,6 @@
-use mathlib.Core.Path.{_∙_}
 use borrow.Author.Needs.{needs}
 use Rattle.machine.proofs.Machine.enter_by_smint.Statement.{statement}
 use Rattle.machine.proofs.Machine.enter_by_smint.Tie as tie
-use Rattle.machine.proofs.Machine.enter_by_smint.Reads as reads
-use Rattle.machine.proofs.Machine.enter_by_smint.Lts as lts
-use Rattle.header.proofs.trap_of.Reads as trap-of-reads
-use Rattle.machine.proofs.Machine.enter.Reads as enter-reads
 
 trap-of-requires : tie.Need-trap-of-requires
 trap-of-requires c κs = search needs

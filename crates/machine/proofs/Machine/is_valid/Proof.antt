@@ -3,10 +3,6 @@ use mathlib.Core.Path.{sym}
 use borrow.Author.Needs.{needs}
 use Rattle.machine.proofs.Machine.is_valid.Statement.{statement}
 use Rattle.machine.proofs.Machine.is_valid.Tie as tie
-use Rattle.machine.proofs.Machine.is_valid.Reads as reads
-use Rattle.machine.proofs.Machine.is_valid.Lts as lts
-use Rattle.machine.proofs.Machine.permits.Reads as permits-reads
-use Rattle.opcodes.proofs.Operation.is_allowed.Reads as is-allowed-reads
 
 permits-requires : tie.Need-permits-requires
 permits-requires c κs = search needs

@@ -5,14 +5,6 @@ use mathlib.Core.Path.{sym, ap}
 use borrow.Author.Needs.{needs}
 use Rattle.machine.proofs.Machine.operate.Statement.{statement}
 use Rattle.machine.proofs.Machine.operate.Tie as tie
-use Rattle.machine.proofs.Machine.operate.Reads as reads
-use Rattle.machine.proofs.Machine.operate.Lts as lts
-use Rattle.machine.proofs.Machine.answers.Reads as answers-reads
-use Rattle.machine.proofs.Machine.enter_by_smint.Reads as enter-by-smint-reads
-use Rattle.machine.proofs.Machine.is_valid.Reads as is-valid-reads
-use Rattle.machine.proofs.Machine.restore.Reads as restore-reads
-use Rattle.machine.proofs.Machine.resume.Reads as resume-reads
-use Rattle.machine.proofs.Machine.save.Reads as save-reads
 
 is-valid-requires : tie.Need-is-valid-requires
 is-valid-requires c κs = search needs

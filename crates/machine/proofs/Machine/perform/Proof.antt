@@ -1,27 +1,11 @@
+use mathlib.Core.Path.{ap, _∙_}
+use Rattle.machine.proofs.Access.{read-stays, write-stays}
 use Rattle.machine.specs.Steps.{performed}
 use Rattle.machine.specs.Outcomes.{over}
 use Rattle.memory.specs.Memory.{memories}
-use borrow.Author.Tests.{not-false}
-use mathlib.Core.Path.{ap, _∙_}
 use borrow.Author.Needs.{needs}
 use Rattle.machine.proofs.Machine.perform.Statement.{statement}
 use Rattle.machine.proofs.Machine.perform.Tie as tie
-use Rattle.machine.proofs.Machine.perform.Reads as reads
-use Rattle.machine.proofs.Machine.perform.Lts as lts
-use Rattle.config.proofs.Config.read.Reads as Config-read-reads
-use Rattle.config.proofs.Config.write.Reads as Config-write-reads
-use Rattle.header.proofs.level_of.Reads as level-of-reads
-use Rattle.machine.proofs.Machine.answers.Reads as answers-reads
-use Rattle.machine.proofs.Machine.boundary.Reads as boundary-reads
-use Rattle.machine.proofs.Machine.operate.Reads as operate-reads
-use Rattle.machine.proofs.Machine.ported.Reads as ported-reads
-use Rattle.machine.proofs.Machine.read.Reads as Machine-read-reads
-use Rattle.machine.proofs.Machine.set_registers.Reads as set-registers-reads
-use Rattle.machine.proofs.Machine.with_halted.Reads as with-halted-reads
-use Rattle.machine.proofs.Machine.write.Reads as Machine-write-reads
-use Rattle.machine.proofs.reset.Reads as reset-reads
-use Rattle.machine.proofs.segment_of.Reads as segment-of-reads
-use Rattle.opcodes.proofs.decode.Reads as decode-reads
 
 enum-told : tie.Need-enum-told
 enum-told c = search needs
@@ -41,8 +25,8 @@ segment-of-requires c κs = search needs
 level-of-requires : tie.Need-level-of-requires
 level-of-requires c κs = search needs
 
-set-registers-requires : tie.Need-set-registers-requires
-set-registers-requires c κs = search needs
+with-registers-requires : tie.Need-with-registers-requires
+with-registers-requires c κs = search needs
 
 answers-requires-2 : tie.Need-answers-requires-2
 answers-requires-2 c κs = search needs
@@ -50,14 +34,26 @@ answers-requires-2 c κs = search needs
 enum-known-s-2 : tie.Need-enum-known-s-2
 enum-known-s-2 c = search needs
 
+window-requires : tie.Need-window-requires
+window-requires c κs = search needs
+
 read-requires : tie.Need-read-requires
-read-requires c κs = not-false _ (rw (c .before .before .before .s2 .given .1) at (c .before .before .before .before .before .before .before .pre))
+read-requires c κs = search needs
+
+answers-requires-3 : tie.Need-answers-requires-3
+answers-requires-3 c κs = search needs
 
 enum-known-s-3 : tie.Need-enum-known-s-3
 enum-known-s-3 c = search needs
 
+window-requires-2 : tie.Need-window-requires-2
+window-requires-2 c κs = search needs
+
 write-requires : tie.Need-write-requires
 write-requires c κs = search needs
+
+answers-requires-4 : tie.Need-answers-requires-4
+answers-requires-4 c κs = search needs
 
 enum-known-s-4 : tie.Need-enum-known-s-4
 enum-known-s-4 c = search needs
@@ -95,8 +91,8 @@ boundary-requires c κs = search needs
 enum-told-2 : tie.Need-enum-told-2
 enum-told-2 c = search needs
 
-answers-requires-3 : tie.Need-answers-requires-3
-answers-requires-3 c κs = search needs
+answers-requires-5 : tie.Need-answers-requires-5
+answers-requires-5 c κs = search needs
 
 enum-told-3 : tie.Need-enum-told-3
 enum-told-3 c = search needs
@@ -104,8 +100,8 @@ enum-told-3 c = search needs
 with-halted-requires : tie.Need-with-halted-requires
 with-halted-requires c κs = search needs
 
-answers-requires-4 : tie.Need-answers-requires-4
-answers-requires-4 c κs = search needs
+answers-requires-6 : tie.Need-answers-requires-6
+answers-requires-6 c κs = search needs
 
 enum-told-4 : tie.Need-enum-told-4
 enum-told-4 c = search needs
@@ -113,8 +109,8 @@ enum-told-4 c = search needs
 with-halted-requires-2 : tie.Need-with-halted-requires-2
 with-halted-requires-2 c κs = search needs
 
-answers-requires-5 : tie.Need-answers-requires-5
-answers-requires-5 c κs = search needs
+answers-requires-7 : tie.Need-answers-requires-7
+answers-requires-7 c κs = search needs
 
 returns : tie.Need-returns
 unfolding performed
@@ -122,7 +118,7 @@ returns c = rw ((c .before .before .enum-told .given .1), (c .answers .ensures),
 
 returns-2 : tie.Need-returns-2
 unfolding performed
-returns-2 c = rw ((c .before .before .before .before .before .s .given .1), (c .answers2 .ensures), (c .before .set-registers .ensures), (c .before .before .level-of .ensures), (c .before .before .before .segment-of .ensures))
+returns-2 c = rw ((c .before .before .before .before .before .s .given .1), (c .answers2 .ensures), (c .before .with-registers .ensures), (c .before .before .level-of .ensures), (c .before .before .before .segment-of .ensures))
 
 same-length : tie.Need-same-length
 same-length c = search needs
@@ -131,8 +127,7 @@ same-length-2 : tie.Need-same-length-2
 same-length-2 c = search needs
 
 returns-3 : tie.Need-returns-3
-unfolding performed
-returns-3 c = rw ((c .before .before .before .before .s2 .given .1), (c .read .ensures))
+returns-3 c = rw ((c .before .before .before .before .before .before .s2 .given .1), (c .answers3 .ensures)) (read-stays _ _ _ (c .before .before .before .before .window .ensures) _ _ (rw (c .before .before .before .before .before .before .s2 .given .1) at (c .before .before .before .before .before .before .before .before .before .before .pre)) _ (c .before .read .ensures))
 
 same-length-3 : tie.Need-same-length-3
 same-length-3 c = search needs
@@ -141,8 +136,7 @@ same-length-4 : tie.Need-same-length-4
 same-length-4 c = search needs
 
 returns-4 : tie.Need-returns-4
-unfolding performed
-returns-4 c = rw (c .before .before .before .before .before .before .before .before .s3 .given .1) (c .before .before .before .before .write .ensures)
+returns-4 c = rw ((c .before .before .before .before .before .before .before .before .before .before .s3 .given .1), (c .answers4 .ensures)) (write-stays _ _ _ (c .before .before .before .before .before .before .before .before .window2 .ensures) _ _ _ _ _ (c .before .before .before .before .before .write .ensures))
 
 returns-5 : tie.Need-returns-5
 unfolding performed
@@ -171,15 +165,15 @@ returns-8 c = rw (c .before .before .before .before .before .s7 .given .1) (ap (
 
 returns-9 : tie.Need-returns-9
 unfolding performed
-returns-9 c = rw ((c .before .enum-told2 .given .1), (c .answers3 .ensures))
+returns-9 c = rw ((c .before .enum-told2 .given .1), (c .answers5 .ensures))
 
 returns-10 : tie.Need-returns-10
 unfolding performed
-returns-10 c = rw ((c .before .before .enum-told3 .given .1), (c .answers4 .ensures), (c .before .with-halted .ensures))
+returns-10 c = rw ((c .before .before .enum-told3 .given .1), (c .answers6 .ensures), (c .before .with-halted .ensures))
 
 returns-11 : tie.Need-returns-11
 unfolding performed
-returns-11 c = rw ((c .before .before .enum-told4 .given .1), (c .answers5 .ensures), (c .before .with-halted2 .ensures))
+returns-11 c = rw ((c .before .before .enum-told4 .given .1), (c .answers7 .ensures), (c .before .with-halted2 .ensures))
 
 pub perform-spec : {M : Type 1} → statement M
 perform-spec =
@@ -191,12 +185,16 @@ perform-spec =
     enum-known-s
     segment-of-requires
     level-of-requires
-    set-registers-requires
+    with-registers-requires
     answers-requires-2
     enum-known-s-2
+    window-requires
     read-requires
+    answers-requires-3
     enum-known-s-3
+    window-requires-2
     write-requires
+    answers-requires-4
     enum-known-s-4
     read-requires-2
     ported-requires
@@ -209,13 +207,13 @@ perform-spec =
     enum-known-s-7
     boundary-requires
     enum-told-2
-    answers-requires-3
+    answers-requires-5
     enum-told-3
     with-halted-requires
-    answers-requires-4
+    answers-requires-6
     enum-told-4
     with-halted-requires-2
-    answers-requires-5
+    answers-requires-7
     returns
     returns-2
     same-length

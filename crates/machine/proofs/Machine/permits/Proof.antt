@@ -4,13 +4,6 @@ use mathlib.Core.Path.{sym}
 use borrow.Author.Needs.{needs}
 use Rattle.machine.proofs.Machine.permits.Statement.{statement}
 use Rattle.machine.proofs.Machine.permits.Tie as tie
-use Rattle.machine.proofs.Machine.permits.Reads as reads
-use Rattle.machine.proofs.Machine.permits.Lts as lts
-use Rattle.config.proofs.Settings.region.Reads as region-reads
-use Rattle.config.proofs.Settings.smac.Reads as smac-reads
-use Rattle.config.proofs.Settings.use_smi.Reads as use-smi-reads
-use Rattle.header.proofs.level_number.Reads as level-number-reads
-use Rattle.region.proofs.Region.is_usable.Reads as is-usable-reads
 
 use-smi-requires : tie.Need-use-smi-requires
 use-smi-requires c κs = search needs

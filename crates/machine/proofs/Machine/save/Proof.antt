@@ -1,16 +1,8 @@
 use mathlib.Core.Bool.{true, false}
-use mathlib.Core.Path.{sym, ap, _∙_}
 use Rattle.machine.proofs.Access.{save-made}
 use borrow.Author.Needs.{needs}
 use Rattle.machine.proofs.Machine.save.Statement.{statement}
 use Rattle.machine.proofs.Machine.save.Tie as tie
-use Rattle.machine.proofs.Machine.save.Reads as reads
-use Rattle.machine.proofs.Machine.save.Lts as lts
-use Rattle.machine.proofs.Machine.advance.Reads as advance-reads
-use Rattle.machine.proofs.Machine.answers.Reads as answers-reads
-use Rattle.machine.proofs.Machine.segment.Reads as segment-reads
-use Rattle.machine.proofs.Machine.window.Reads as window-reads
-use Rattle.memory.proofs.write_segment.Reads as write-segment-reads
 
 segment-requires : tie.Need-segment-requires
 segment-requires c κs = search needs
@@ -34,7 +26,7 @@ same-length-2 : tie.Need-same-length-2
 same-length-2 c = search needs
 
 returns : tie.Need-returns
-returns c = rw ((c .answers .ensures), (c .before .advance .ensures)) (save-made (c .before .before .before .before .before .before .before .before .before .before .before .before .before .before .args .self) _ _ (c .before .before .before .before .before .before .before .before .before .before .window .ensures) _ _ true (c .before .before .before .before .before .before .before .before .before .before .before .before .before .before .args .name) (c .before .before .before .before .before .before .before .before .before .before .before .before .before .before .args .next) (sym (c .before .before .if1 .taken) ∙ (c .before .before .before .before .before .before .before .write-segment .ensures .0)) (rw (sym (c .before .before .before .before .before .before .before .before .before .before .before .segment .ensures)) (c .before .before .before .before .before .before .before .write-segment .ensures .1)))
+returns c = rw ((c .answers .ensures), (c .before .advance .ensures)) (save-made (c .before .before .before .before .before .before .before .before .before .before .before .before .before .before .args .self) _ _ (c .before .before .before .before .before .before .before .before .before .before .window .ensures) _ _ _ _ true _ (c .before .before .before .before .before .before .before .before .before .before .before .segment .ensures) (rw (c .before .before .if1 .taken) at (c .before .before .before .before .before .before .before .write-segment .ensures)))
 
 answers-requires-2 : tie.Need-answers-requires-2
 answers-requires-2 c κs = search needs
@@ -46,7 +38,7 @@ same-length-4 : tie.Need-same-length-4
 same-length-4 c = search needs
 
 returns-2 : tie.Need-returns-2
-returns-2 c = rw (c .answers2 .ensures) (save-made (c .before .before .before .before .before .before .before .before .before .before .before .before .before .args .self) _ _ (c .before .before .before .before .before .before .before .before .before .window .ensures) _ _ false (c .before .before .before .before .before .before .before .before .before .before .before .before .before .args .name) (c .before .before .before .before .before .before .before .before .before .before .before .before .before .args .next) (sym (c .before .if1 .left) ∙ (c .before .before .before .before .before .before .write-segment .ensures .0)) (rw (sym (c .before .before .before .before .before .before .before .before .before .before .segment .ensures)) (c .before .before .before .before .before .before .write-segment .ensures .1)))
+returns-2 c = rw (c .answers2 .ensures) (save-made (c .before .before .before .before .before .before .before .before .before .before .before .before .before .args .self) _ _ (c .before .before .before .before .before .before .before .before .before .window .ensures) _ _ (c .before .before .before .before .before .before .before .before .before .before .before .before .before .args .next) _ false _ (c .before .before .before .before .before .before .before .before .before .before .segment .ensures) (rw (c .before .if1 .left) at (c .before .before .before .before .before .before .write-segment .ensures)))
 
 pub save-spec : {M : Type 1} → statement M
 save-spec =

@@ -1,10 +1,6 @@
 use borrow.Author.Needs.{needs}
-use Rattle.machine.proofs.Machine.set_segment.Statement.{statement}
-use Rattle.machine.proofs.Machine.set_segment.Tie as tie
-use Rattle.machine.proofs.Machine.set_segment.Reads as reads
-use Rattle.machine.proofs.Machine.set_segment.Lts as lts
-use Rattle.machine.proofs.Machine.set_registers.Reads as set-registers-reads
-use Rattle.machine.proofs.Machine.with_segments.Reads as with-segments-reads
+use Rattle.machine.proofs.Machine.with_segment.Statement.{statement}
+use Rattle.machine.proofs.Machine.with_segment.Tie as tie
 
 enum-told : tie.Need-enum-told
 enum-told c = search needs
@@ -51,8 +47,8 @@ with-segments-requires-7 c κs = search needs
 enum-told-8 : tie.Need-enum-told-8
 enum-told-8 c = search needs
 
-set-registers-requires : tie.Need-set-registers-requires
-set-registers-requires c κs = search needs
+with-registers-requires : tie.Need-with-registers-requires
+with-registers-requires c κs = search needs
 
 returns : tie.Need-returns
 returns c = rw (c .before .enum-told .given .1) (c .with-segments .ensures)
@@ -76,10 +72,10 @@ returns-7 : tie.Need-returns-7
 returns-7 c = rw (c .before .enum-told7 .given .1) (c .with-segments7 .ensures)
 
 returns-8 : tie.Need-returns-8
-returns-8 c = rw (c .before .enum-told8 .given .1) (c .set-registers .ensures)
+returns-8 c = rw (c .before .enum-told8 .given .1) (c .with-registers .ensures)
 
-pub set-segment-spec : {M : Type 1} → statement M
-set-segment-spec =
+pub with-segment-spec : {M : Type 1} → statement M
+with-segment-spec =
     tie.close
     (tie.spec
     enum-told
@@ -97,7 +93,7 @@ set-segment-spec =
     enum-told-7
     with-segments-requires-7
     enum-told-8
-    set-registers-requires
+    with-registers-requires
     returns
     returns-2
     returns-3
