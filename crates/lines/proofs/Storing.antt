@@ -7,8 +7,8 @@ use native.Mathlib.Numerals.{add-one}
 use native.Mathlib.Omega.{arith}
 use lib.ListN.{length, getD, take, drop, set, length-append, drop-of-length-le}
 use lib.Seq.{sets, sets-eq, length-sets, take-at, set-comm, drop-cons}
-use Rattle.lines.specs.Lines.{space, newline, digitOf, decimalOf, hexOf, lineOf}
-use Rattle.lines.specs.Stores.{linesFor, Stored, Written}
+use Rattle.lines.specs.Lines.{space, newline, digitOf, decimalOf, hexOf, lineOf, linesFor}
+use Rattle.lines.specs.Stores.{Stored, Written}
 use Rattle.lines.proofs.Digits.{one-digit, two-digits, three-digits, hex-length}
 
 sets-append : (l : List ℕ) (i : ℕ) (xs ys : List ℕ) → sets l i (xs ++ ys) ≡ sets (sets l i xs) (i + length xs) ys

@@ -1,7 +1,7 @@
 -- 01, "Trace player": the text that the program prints, in ASCII.
 use Prim.Native.Nat.{ℕ, zero, suc, _+_, _-_, _/_, _%_}
 use mathlib.Core.Bool.{cond}
-use mathlib.Core.List.{List, [], _∷_, _++_}
+use mathlib.Core.List.{List, [], _∷_, _++_, map}
 use lib.Dec.{ltb}
 use Rattle.steps.specs.declared.Answer.{Answer}
 use Rattle.steps.specs.Answers.{numberOf, valueOf}
@@ -32,10 +32,15 @@ hexOf (suc count) v = hexOf count (v / 16) ++ digitOf (v % 16) ∷ []
 unfoldable pub lineOf : ℕ → ℕ → List ℕ
 lineOf number value = decimalOf 3 number ++ space ∷ hexOf 8 value ++ newline ∷ []
 
+-- a line for each number and its value
+unfoldable pub linesFor : List ℕ → List ℕ → List ℕ
+linesFor [] vs = []
+linesFor (n ∷ ns) [] = []
+linesFor (n ∷ ns) (v ∷ vs) = lineOf n v ++ linesFor ns vs
+
 -- "prints per record"
-unfoldable pub linesOf : List Answer → List ℕ
-linesOf [] = []
-linesOf (a ∷ rest) = lineOf (numberOf a) (valueOf a) ++ linesOf rest
+abbrev pub linesOf : List Answer → List ℕ
+linesOf answers = linesFor (map numberOf answers) (map valueOf answers)
 
 -- "the reason's word and a newline"
 abbrev pub wordOf : Reason → List ℕ

@@ -1,17 +1,11 @@
 -- The text as the code is given it, by numbers and values, and where it is stored.
 use mathlib.Core.Path.{_≡_}
 use Prim.Native.Nat.{ℕ, _+_, _≤_, min}
-use mathlib.Core.List.{List, [], _∷_, _++_}
+use mathlib.Core.List.{List, _++_}
 use lib.ListN.{length, take}
 use lib.Seq.{sets}
 use Rattle.lines.specs.declared.Reason.{Reason}
-use Rattle.lines.specs.Lines.{lineOf, wordOf}
-
--- a line for each number and its value
-unfoldable pub linesFor : List ℕ → List ℕ → List ℕ
-linesFor [] vs = []
-linesFor (n ∷ ns) [] = []
-linesFor (n ∷ ns) (v ∷ vs) = lineOf n v ++ linesFor ns vs
+use Rattle.lines.specs.Lines.{linesFor, wordOf}
 
 -- the text of the first numbers and values, of which there are count, but at most 10,000
 abbrev pub textFor : List ℕ → List ℕ → ℕ → Reason → List ℕ

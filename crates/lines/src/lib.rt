@@ -1,8 +1,8 @@
 ghost use mathlib.Core.Path.{_≡_};
 ghost use Prim.Native.Nat.{_+_, _*_, _<_, _≤_, min};
 ghost use lib.ListN.{length, take};
-ghost use Rattle.lines.specs.Lines.{digitOf, decimalOf, hexOf, lineOf, wordOf, longText};
-ghost use Rattle.lines.specs.Stores.{linesFor, textFor, Stored, Written};
+ghost use Rattle.lines.specs.Lines.{digitOf, decimalOf, hexOf, lineOf, linesFor, wordOf, longText};
+ghost use Rattle.lines.specs.Stores.{textFor, Stored, Written};
 
 // Why the player stopped.
 pub enum Reason {

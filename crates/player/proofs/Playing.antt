@@ -1,5 +1,5 @@
 -- Playing step by step is running the list of steps. Assumes nothing.
-use mathlib.Core.Path.{_≡_, refl, ap, _∙_}
+use mathlib.Core.Path.{_≡_, refl, sym, ap, _∙_}
 use mathlib.Core.List.{List, [], _∷_, map}
 use Prim.Native.Nat.{ℕ, zero, suc, _+_, _-_, _<_, _≤_}
 use native.Mathlib.Numerals.{add-one}
@@ -10,11 +10,16 @@ use lib.Seq.{sets}
 use Rattle.steps.specs.declared.Step.{Step}
 use Rattle.steps.specs.declared.Answer.{Answer}
 use Rattle.steps.specs.Answers.{numberOf, valueOf}
-use Rattle.memory.specs.Memory.{Memories}
+use Rattle.region.specs.declared.Region.{Region}
+use Rattle.memory.specs.Memory.{Memories, memories}
+use Rattle.access.specs.declared.Reply.{Reply}
+use Rattle.access.specs.declared.Reply.the-variants.{Answered, Deferred}
+use Rattle.access.specs.Access.{replies, earlyReply}
 use Rattle.machine.specs.declared.Machine.{Machine}
 use Rattle.machine.specs.declared.Stepped.{Stepped}
-use Rattle.machine.specs.Outcomes.{ends}
-use Rattle.machine.specs.Steps.{Run, run, stepped}
+use Rattle.machine.specs.Outcomes.{gives, ends}
+use Rattle.machine.specs.Steps.{window, Run, run, stepped}
+use Rattle.machine.proofs.Access.{answered-stays, deferred-keeps}
 use Rattle.trace.specs.declared.Found.{Found}
 use Rattle.trace.specs.declared.Found.the-variants.{Record, End}
 use Rattle.trace.specs.Trace.{foundAt}
@@ -115,15 +120,37 @@ module _ (t : Held) (r : Run) (numbers₀ values₀ : List ℕ) where
       left-stop f why p q = rest-none numbers values count why m x _ (held-found l at (limit - count) (omega arith) f p ∙ q) e
 
       -- a turn of the loop: the record at the place, its step, and its answer in the two lists
-      pub left-turn : (s : Step) (next : ℕ) → foundAt l at ≡ Record s next
+      left-turn : (s : Step) (next : ℕ) → foundAt l at ≡ Record s next
           → (d : Stepped) (x′ : Memories) → ends d x′ ≡ stepped m x s
-          → (b v : ℕ) → b ≡ numberOf (d .answer) → v ≡ valueOf (d .answer)
-          → Left t r limit l next (d .machine) x′ (count + 1) numbers₀ (set numbers count b) values₀ (set values count v)
-      left-turn s next f d x′ g b v p q =
+          → Left t r limit l next (d .machine) x′ (count + 1) numbers₀ (set numbers count (numberOf (d .answer)))
+          values₀ (set values count (valueOf (d .answer)))
+      left-turn s next f d x′ g =
           let u = heldFrom (limit - (count + 1)) l next in
           let k : limit - count - 1 ≡ limit - (count + 1) = omega arith in
           let i : heldFrom (limit - count) l at ≡ follows s u =
           held-found l at (limit - count) (omega arith) (Record s next) f ∙ ap (λ (n : ℕ). follows s (heldFrom n l next)) k in
-          rw (p, q)
-          (rest-more numbers values count s u (d .answer) (run (d .machine) x′ (u .steps))
-          (rw (i, run-step m x x′ s (u .steps) d g) at e))
+          rest-more numbers values count s u (d .answer) (run (d .machine) x′ (u .steps))
+          (rw (i, run-step m x x′ s (u .steps) d g) at e)
+
+      -- the two ways to a step's answer: n, main, management, numbers′ and values′ are what the turn leaves
+      module _ (s : Step) (next : ℕ) (f : foundAt l at ≡ Record s next) (w : Region) (g : w ≡ window m) (v : Reply) (y : Memories)
+          (o : replies v y ≡ earlyReply w (m .halted) x s) (n : Machine) (main management numbers′ values′ : List ℕ) where
+        abbrev Leaves : Type 0
+        Leaves = Left t r limit l next n (memories main management) (count + 1) numbers₀ numbers′ values₀ values′
+
+        told : replies v y ≡ earlyReply (window m) (m .halted) x s
+        told = o ∙ ap (λ (u : Region). earlyReply u (m .halted) x s) g
+
+        -- without the machine
+        pub left-answered : (a : Answer) → v ≡ Answered a → main ≡ y .main → management ≡ y .management
+            → numbers′ ≡ set numbers count (numberOf a) → values′ ≡ set values count (valueOf a) → n ≡ m → Leaves
+        left-answered a h c d p q i =
+            rw (c, d, p, q, i) (left-turn s next f (gives m a) y (answered-stays m x s y a (sym (ap (λ (u : Reply). replies u y) h) ∙ told)))
+
+        -- by the machine
+        pub left-stepped : v ≡ Deferred → (z : Stepped) (x′ : Memories) → ends z x′ ≡ stepped m y s → main ≡ x′ .main
+            → management ≡ x′ .management → numbers′ ≡ set numbers count (numberOf (z .answer))
+            → values′ ≡ set values count (valueOf (z .answer)) → n ≡ z .machine → Leaves
+        left-stepped h z x′ k c d p q i =
+            let waits = deferred-keeps m x s y (sym (ap (λ (u : Reply). replies u y) h) ∙ told) in
+            rw (c, d, p, q, i) (left-turn s next f z x′ (k ∙ ap (λ (u : Memories). stepped m u s) waits))

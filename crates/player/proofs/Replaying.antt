@@ -1,11 +1,12 @@
 -- The text of what the two lists hold after a play is the text of the run's answers. Assumes nothing.
 use mathlib.Core.Path.{_≡_, refl, sym, ap, _∙_}
 use mathlib.Core.List.{List, [], _∷_, map}
-use Prim.Native.Nat.{ℕ, zero, suc, _+_, _<_, _≤_}
+use Prim.Native.Nat.{ℕ, zero, suc, _<_, _≤_}
+use native.Mathlib.Nat.{min-eq-left}
 use native.Mathlib.Omega.{arith}
 use borrow.Author.Tests.{le-leb, lt-leb}
-use lib.ListN.{length, take, drop, replicate, length-replicate, length-map}
-use lib.Seq.{sets, sets-eq, take-at}
+use lib.ListN.{length, take, replicate, length-replicate, length-map}
+use lib.Seq.{sets}
 use Rattle.steps.specs.declared.Step.{Step}
 use Rattle.steps.specs.declared.Answer.{Answer}
 use Rattle.steps.specs.Answers.{numberOf, valueOf}
@@ -19,7 +20,6 @@ use Rattle.trace.specs.Trace.{foundAt}
 use Rattle.lines.specs.Lines.{textOf, longText}
 use Rattle.lines.specs.Stores.{textFor, Written}
 use Rattle.lines.proofs.Storing.{front}
-use Rattle.lines.proofs.Texts.{text-for}
 use Rattle.player.specs.declared.Played.{Played}
 use Rattle.player.specs.Output.{zeroMemories, outputOf}
 use Rattle.player.specs.Player.{Held, heldBy, heldFrom, held, playing, Plays, Replays}
@@ -60,10 +60,12 @@ module _ (l : List ℕ) (m : Machine) (x x′ : Memories) (p : Played) (numbers 
       let h : p .count ≤ 10000 = omega (arith, e .count-is, held-within 10000 l 0) in
       let k : p .count ≡ length (r .answers) = e .count-is ∙ sym (answered m x (held l .steps)) in
       let t : textFor numbers values (p .count) (p .reason) ≡ textOf (r .answers) (held l .reason) =
-      text-for (r .answers) numbers values (p .count) (p .reason) h
-      (stored numberOf (r .answers) l₀ numbers (p .count) k (omega arith) (e .numbers-are))
-      (stored valueOf (r .answers) l₀ values (p .count) k (omega arith) (e .values-are))
-      ∙ ap (textOf (r .answers)) (e .reason-is) in
+      rw (
+        min-eq-left h,
+        stored numberOf (r .answers) l₀ numbers (p .count) k (omega arith) (e .numbers-are),
+        stored valueOf (r .answers) l₀ values (p .count) k (omega arith) (e .values-are),
+        e .reason-is,
+      ) in
       record { memory-is = e .memory-is; prints = rw t at w }
 
 -- the program's output, from the test that the code makes

@@ -1,6 +1,12 @@
+use access::Reply;
 use lines::Reason;
 use machine::Machine;
+use steps::Answer;
 use trace::Found;
+ghost use mathlib.Core.Path.{_≡_};
+ghost use Prim.Native.Nat.{_<_};
+ghost use lib.ListN.{set};
+ghost use Rattle.steps.specs.Answers.{numberOf, valueOf};
 ghost use Rattle.memory.specs.Memory.{memories};
 ghost use Rattle.lines.specs.Stores.{Written};
 ghost use Rattle.player.specs.Output.{outputOf};
@@ -14,7 +20,18 @@ pub struct Played {
     pub reason: Reason,
 }
 
-// Plays a trace from its start. The numbers and the values of the answers go to the two lists, as many as there were records.
+// Puts an answer's number and value into the two lists.
+fn put(numbers: &mut [u8; 10000], values: &mut [u32; 10000], at: usize, answer: Answer)
+    requires { ⌜ at < 10000 ⌝ }
+    ensures { λ r. ⌜ (now (numbers .exit) ≡ set (now (numbers .entry)) at (numberOf answer))
+        × (now (values .exit) ≡ set (now (values .entry)) at (valueOf answer)) ⌝ }
+{
+    numbers[at] = answer.number();
+    values[at] = answer.value();
+}
+
+// Plays a trace from its start. The numbers and the values of the answers go to the two lists, as many as there were records. Refusals 1
+// to 3 and data accesses don't go through the machine, since handing it over costs more than an access.
 pub fn play(
     trace: &[u8],
     start: Machine,
@@ -40,11 +57,18 @@ pub fn play(
         }
         match trace::record_at(trace, place) {
             Found::Record { step, next } => {
-                let stepped = machine.step(main, management, step);
-                let answer = stepped.answer;
-                numbers[count] = answer.number();
-                values[count] = answer.value();
-                machine = stepped.machine;
+                let window = machine.window();
+                match access::early_reply(window, machine.halted, main, management, step) {
+                    Reply::Answered(answer) => {
+                        put(numbers, values, count, answer);
+                    }
+                    Reply::Deferred => {
+                        let stepped = machine.step(main, management, step);
+                        let answer = stepped.answer;
+                        put(numbers, values, count, answer);
+                        machine = stepped.machine;
+                    }
+                }
                 place = next;
                 count += 1;
             }

@@ -1,15 +1,14 @@
 -- Equal answers have equal lines, and the text begins with them. Assumes nothing.
 use Prim.Native.Nat.{ℕ}
-use mathlib.Core.Path.{_≡_, refl, sym, ap, _∙_}
+use mathlib.Core.Path.{_≡_, refl, sym, ap}
 use mathlib.Core.Bool.{Bool, true, false, cond}
 use mathlib.Core.List.{List, [], _∷_, _++_, append-assoc}
 use lib.Dec.{eqb}
-use lib.ListN.{length, take}
 use lib.Seq.{take-append-seam}
 use Rattle.steps.specs.declared.Answer.{Answer}
 use Rattle.steps.specs.Answers.{numberOf, valueOf}
 use Rattle.lines.specs.declared.Reason.{Reason}
-use Rattle.lines.specs.Lines.{lineOf, linesOf, wordOf, textOf}
+use Rattle.lines.specs.Lines.{lineOf, linesFor, linesOf, wordOf, textOf}
 use Rattle.isolation.specs.Isolation.{throughEntry}
 use Rattle.isolation.proofs.Isolation.{same-answers}
 use Rattle.player.specs.Player.{held}
@@ -20,22 +19,16 @@ after : List Answer → List ℕ
 after [] = []
 after (a ∷ rest) = cond (eqb (numberOf a) 11) (linesOf rest) (after rest)
 
-lines-of-cut : (b : Bool) (rest : List Answer) → cond b [] (linesOf rest) ≡ linesOf (cond b [] rest)
-unfolding linesOf
-lines-of-cut true rest = refl
-lines-of-cut false rest = refl
-
-cut-off : (line all through rest : List ℕ) (b : Bool) → all ≡ through ++ rest
-    → line ++ all ≡ line ++ cond b [] through ++ cond b all rest
-cut-off line all through rest true e = sym (append-assoc line [] all)
-cut-off line all through rest false e = ap (λ (l : List ℕ). line ++ l) e ∙ sym (append-assoc line through rest)
+split-at : (a : Answer) (rest : List Answer) (b : Bool) → linesOf rest ≡ linesThroughEntry rest ++ after rest
+    → linesOf (a ∷ rest) ≡ linesOf (a ∷ cond b [] (throughEntry rest)) ++ cond b (linesOf rest) (after rest)
+unfolding linesFor
+split-at a rest true e = sym (append-assoc (lineOf (numberOf a) (valueOf a)) [] (linesOf rest))
+split-at a rest false e = rw (e, append-assoc)
 
 split : (answers : List Answer) → linesOf answers ≡ linesThroughEntry answers ++ after answers
-unfolding linesOf throughEntry after
+unfolding linesFor throughEntry after
 split [] = refl
-split (a ∷ rest) =
-    cut-off (lineOf (numberOf a) (valueOf a)) (linesOf rest) (linesThroughEntry rest) (after rest) (eqb (numberOf a) 11) (split rest)
-    ∙ ap (λ (l : List ℕ). lineOf (numberOf a) (valueOf a) ++ l ++ after (a ∷ rest)) (lines-of-cut (eqb (numberOf a) 11) (throughEntry rest))
+split (a ∷ rest) = split-at a rest (eqb (numberOf a) 11) (split rest)
 
 begins : (answers : List Answer) (reason : Reason) → Begins (textOf answers reason) (linesThroughEntry answers)
 begins answers reason =

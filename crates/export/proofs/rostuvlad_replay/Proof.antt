@@ -3,11 +3,6 @@ use mathlib.Core.Path.{ap, _∙_}
 use borrow.Author.Needs.{needs}
 use Rattle.export.proofs.rostuvlad_replay.Statement.{statement}
 use Rattle.export.proofs.rostuvlad_replay.Tie as tie
-use Rattle.export.proofs.rostuvlad_replay.Reads as reads
-use Rattle.export.proofs.rostuvlad_replay.Lts as lts
-use Rattle.export.proofs.reason_number.Reads as reason-number-reads
-use Rattle.machine.proofs.reset.Reads as reset-reads
-use Rattle.player.proofs.play.Reads as play-reads
 
 reset-requires : tie.Need-reset-requires
 reset-requires c κs = search needs

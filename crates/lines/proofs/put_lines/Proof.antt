@@ -3,7 +3,8 @@ use native.Mathlib.Omega.{arith}
 use mathlib.Core.Path.{_≡_, refl, _∙_}
 use Prim.Native.Nat.{_*_, _-_, _≤_}
 use lib.ListN.{length, take}
-use Rattle.lines.specs.Stores.{linesFor, Stored}
+use Rattle.lines.specs.Lines.{linesFor}
+use Rattle.lines.specs.Stores.{Stored}
 use Rattle.lines.proofs.Storing.{no-line, line-turn}
 use Rattle.lines.proofs.put_lines.Statement.{statement}
 use Rattle.lines.proofs.put_lines.Tie as tie

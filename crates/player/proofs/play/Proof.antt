@@ -1,10 +1,12 @@
-use borrow.Author.Needs.{needs}
-use mathlib.Core.Path.{_≡_, refl, sym, _∙_}
-use Prim.Native.Nat.{_-_, _≤_}
-use lib.ListN.{length}
-use Rattle.memory.specs.Memory.{memories}
+use Rattle.player.proofs.Playing.{Left, left-all, left-end, left-limit, left-stop, left-answered, left-stepped}
 use Rattle.player.specs.Player.{held, playing}
-use Rattle.player.proofs.Playing.{Left, left-all, left-end, left-limit, left-stop, left-turn}
+use Rattle.memory.specs.Memory.{memories}
+use lib.ListN.{length}
+use native.Mathlib.Omega.{arith}
+use Prim.Native.Nat.{_+_, _-_, _≤_, _<_}
+use mathlib.Core.Path.{_≡_, refl, sym, ap, _∙_}
+use mathlib.Core.Logic.{⊎-elim}
+use borrow.Author.Needs.{needs}
 use Rattle.player.proofs.play.Statement.{statement}
 use Rattle.player.proofs.play.Tie as tie
 
@@ -27,23 +29,26 @@ record-at-requires c κs = search needs
 enum-known-step : tie.Need-enum-known-step Inv-loop μ-loop
 enum-known-step c = search needs
 
+window-requires : tie.Need-window-requires Inv-loop μ-loop
+window-requires c κs = search needs
+
+early-reply-requires : tie.Need-early-reply-requires Inv-loop μ-loop
+early-reply-requires c κs = search needs
+
+enum-known-answer : tie.Need-enum-known-answer Inv-loop μ-loop
+enum-known-answer c = search needs
+
+put-requires : tie.Need-put-requires Inv-loop μ-loop
+put-requires c κs = search needs
+
+enum-told : tie.Need-enum-told Inv-loop μ-loop
+enum-told c = search needs
+
 step-requires : tie.Need-step-requires Inv-loop μ-loop
 step-requires c κs = search needs
 
-number-requires : tie.Need-number-requires Inv-loop μ-loop
-number-requires c κs = search needs
-
-element-write-numbers : tie.Need-element-write-numbers Inv-loop μ-loop
-element-write-numbers c = search needs
-
-value-requires : tie.Need-value-requires Inv-loop μ-loop
-value-requires c κs = search needs
-
-mul-values : tie.Need-mul-values Inv-loop μ-loop
-mul-values c = search needs
-
-element-write-values : tie.Need-element-write-values Inv-loop μ-loop
-element-write-values c = search needs
+put-requires-2 : tie.Need-put-requires-2 Inv-loop μ-loop
+put-requires-2 c κs = omega (arith, c .before .before .before .before .before .before .before .before .before .before .before .before .before .before .before .before .before .before .before .before .before .before .before .if2 .left)
 
 add-count : tie.Need-add-count Inv-loop μ-loop
 add-count c = search needs
@@ -53,22 +58,37 @@ loop-less c = search needs
 
 loop-again : tie.Need-loop-again Inv-loop μ-loop
 loop-again c =
-    let l = c .before .before .before .before .before .before .before .before .before .before .before .before .before .before .before .before .loop in
-    let found = sym (c .before .before .before .before .before .before .before .before .before .before .before .before .before .record-at .ensures) ∙ c .before .before .before .before .before .before .before .before .before .before .before .step .given .1 in (
-      search needs,
-      search needs,
-      search needs,
-      left-turn _ _ _ _ 10000 _ _ _ _ _ _ _ (l .inv .3) (c .before .before .before .before .before .before .before .before .before .before .before .before .before .before .if2 .left) _ _ found _ _ (c .before .before .before .before .before .before .before .step2 .ensures) _ _ (c .before .before .number .ensures) (c .before .value .ensures),
-    )
-
-enum-told : tie.Need-enum-told Inv-loop μ-loop
-enum-told c = search needs
+    let l = c .before .before .before .before .before .before .before .before .before .before .before .before .before .before .before .loop in
+    let found = sym (c .before .before .before .before .before .before .before .before .before .before .before .before .record-at .ensures) ∙ c .before .before .before .before .before .before .before .before .before .before .step .given .1 in
+    let more : l .count < 10000 = omega (arith, c .before .before .before .before .before .before .before .before .before .before .before .before .before .if2 .left) in
+    let window = c .before .before .before .before .before .before .before .before .window .ensures in
+    let reply = c .before .before .before .before .before .early-reply in
+    let short : l .count + 1 ≤ 10000 = omega arith in
+    ⊎-elim
+    (λ w. (
+      short,
+      ap length (w .6) ∙ reply .kept .1 .1 .0 ∙ l .inv .1,
+      ap length (w .7) ∙ reply .kept .1 .1 .1 .0 ∙ l .inv .2,
+      left-answered _ _ _ _ 10000 _ _ _ _ _ _ _ (l .inv .3) more _ _ found _ window _ _ (reply .ensures) _ _ _ _ _ _ (w .1 .given .1)
+          (w .6) (w .7) (w .8 ∙ w .5 .ensures .0) (w .9 ∙ w .5 .ensures .1) (w .10),
+    ))
+    (λ w. (
+      short,
+      ap length (w .13) ∙ w .4 .kept .1 .0 ∙ reply .kept .1 .1 .0 ∙ l .inv .1,
+      ap length (w .14) ∙ w .4 .kept .1 .1 .0 ∙ reply .kept .1 .1 .1 .0 ∙ l .inv .2,
+      left-stepped _ _ _ _ 10000 _ _ _ _ _ _ _ (l .inv .3) more _ _ found _ window _ _ (reply .ensures) _ _ _ _ _ (w .1 .given .1) _ _ (w .4 .ensures)
+          (w .13) (w .14) (w .15 ∙ w .11 .ensures .0) (w .16 ∙ w .11 .ensures .1) (w .17),
+    ))
+    (c .match2 .came)
 
 enum-told-2 : tie.Need-enum-told-2 Inv-loop μ-loop
 enum-told-2 c = search needs
 
 enum-told-3 : tie.Need-enum-told-3 Inv-loop μ-loop
 enum-told-3 c = search needs
+
+enum-told-4 : tie.Need-enum-told-4 Inv-loop μ-loop
+enum-told-4 c = search needs
 
 same-length : tie.Need-same-length Inv-loop μ-loop
 same-length c = search needs
@@ -86,7 +106,7 @@ same-length-4 : tie.Need-same-length-4 Inv-loop μ-loop
 same-length-4 c = search needs
 
 returns-2 : tie.Need-returns-2 Inv-loop μ-loop
-returns-2 c = left-limit _ _ _ _ 10000 _ _ _ _ _ _ _ (c .before .before .loop .inv .3) (c .before .if1 .left) (c .if2 .taken)
+returns-2 c = left-limit _ _ _ _ 10000 _ _ _ _ _ _ _ (c .before .before .loop .inv .3) (c .before .if1 .left) (omega (arith, c .if2 .taken))
 
 same-length-5 : tie.Need-same-length-5 Inv-loop μ-loop
 same-length-5 c = search needs
@@ -95,7 +115,7 @@ same-length-6 : tie.Need-same-length-6 Inv-loop μ-loop
 same-length-6 c = search needs
 
 returns-3 : tie.Need-returns-3 Inv-loop μ-loop
-returns-3 c = left-stop _ _ _ _ 10000 _ _ _ _ _ _ _ (c .before .before .before .before .before .loop .inv .3) (c .before .before .before .if2 .left) _ _ (sym (c .before .before .record-at .ensures) ∙ (c .enum-told .given .1)) refl
+returns-3 c = left-stop _ _ _ _ 10000 _ _ _ _ _ _ _ (c .before .before .before .before .before .loop .inv .3) (omega (arith, c .before .before .before .if2 .left)) _ _ (sym (c .before .before .record-at .ensures) ∙ (c .enum-told2 .given .1)) refl
 
 same-length-7 : tie.Need-same-length-7 Inv-loop μ-loop
 same-length-7 c = search needs
@@ -104,7 +124,7 @@ same-length-8 : tie.Need-same-length-8 Inv-loop μ-loop
 same-length-8 c = search needs
 
 returns-4 : tie.Need-returns-4 Inv-loop μ-loop
-returns-4 c = left-stop _ _ _ _ 10000 _ _ _ _ _ _ _ (c .before .before .before .before .before .loop .inv .3) (c .before .before .before .if2 .left) _ _ (sym (c .before .before .record-at .ensures) ∙ (c .enum-told2 .given .1)) refl
+returns-4 c = left-stop _ _ _ _ 10000 _ _ _ _ _ _ _ (c .before .before .before .before .before .loop .inv .3) (omega (arith, c .before .before .before .if2 .left)) _ _ (sym (c .before .before .record-at .ensures) ∙ (c .enum-told3 .given .1)) refl
 
 same-length-9 : tie.Need-same-length-9 Inv-loop μ-loop
 same-length-9 c = search needs
@@ -113,7 +133,7 @@ same-length-10 : tie.Need-same-length-10 Inv-loop μ-loop
 same-length-10 c = search needs
 
 returns-5 : tie.Need-returns-5 Inv-loop μ-loop
-returns-5 c = left-stop _ _ _ _ 10000 _ _ _ _ _ _ _ (c .before .before .before .before .before .loop .inv .3) (c .before .before .before .if2 .left) _ _ (sym (c .before .before .record-at .ensures) ∙ (c .enum-told3 .given .1)) refl
+returns-5 c = left-stop _ _ _ _ 10000 _ _ _ _ _ _ _ (c .before .before .before .before .before .loop .inv .3) (omega (arith, c .before .before .before .if2 .left)) _ _ (sym (c .before .before .record-at .ensures) ∙ (c .enum-told4 .given .1)) refl
 
 pub play-spec : {M : Type 1} → statement M
 play-spec =
@@ -124,18 +144,19 @@ play-spec =
     loop-holds
     record-at-requires
     enum-known-step
+    window-requires
+    early-reply-requires
+    enum-known-answer
+    put-requires
+    enum-told
     step-requires
-    number-requires
-    element-write-numbers
-    value-requires
-    mul-values
-    element-write-values
+    put-requires-2
     add-count
     loop-less
     loop-again
-    enum-told
     enum-told-2
     enum-told-3
+    enum-told-4
     same-length
     same-length-2
     returns
