@@ -1,5 +1,6 @@
 // The player for Rust and C to call: numbers and slices only.
 use lines::Reason;
+use machine::Machine;
 ghost use mathlib.Core.Path.{_≡_};
 ghost use Rattle.memory.specs.Memory.{memories};
 ghost use Rattle.machine.specs.Machines.{resetMachine};
@@ -23,8 +24,7 @@ pub extern "C" fn rostuvlad_replay(
     trace: &[u8],
     main: &mut [u8],
     management: &mut [u8],
-    numbers: &mut [u8; 10000],
-    values: &mut [u32; 10000],
+    events: &mut [u64; 10000],
     reason: &mut u8,
 ) -> usize
     ensures { λ r. ⌜ Exported (held (now (trace .entry)))
@@ -32,7 +32,7 @@ pub extern "C" fn rostuvlad_replay(
         r (now (reason .exit)) (memories (now (main .exit)) (now (management .exit)))
         (now (numbers .entry)) (now (numbers .exit)) (now (values .entry)) (now (values .exit)) ⌝ }
 {
-    let played = player::play(trace, machine::reset(), main, management, numbers, values);
+    let played = player::play(trace, Machine::initial(), main, management, events);
     let why = played.reason;
     *reason = reason_number(why);
     played.count

@@ -1,8 +1,8 @@
 ghost use mathlib.Core.Path.{_≡_};
-ghost use Prim.Native.Nat.{_+_, _*_, _<_, _≤_, min};
+ghost use Prim.Native.Nat.{_+_, _*_, _<_, _≤_};
 ghost use lib.ListN.{length, take};
-ghost use Rattle.lines.specs.Lines.{digitOf, decimalOf, hexOf, lineOf, linesFor, wordOf, longText};
-ghost use Rattle.lines.specs.Stores.{textFor, Stored, Written};
+ghost use Rattle.lines.specs.Lines.{digitOf, decimalOf, hexOf, wordOf, longText};
+ghost use Rattle.lines.specs.Stores.{lineFor, linesFor, textFor, Stored, Printed};
 
 // Why the player stopped.
 pub enum Reason {
@@ -55,27 +55,27 @@ fn put_hex(out: &mut [u8], at: usize, value: u32) -> usize
     at + 8
 }
 
-fn put_line(out: &mut [u8], at: usize, number: u8, value: u32) -> usize
+fn put_line(out: &mut [u8], at: usize, event: u64) -> usize
     requires { ⌜ at + 13 ≤ length (now out) ⌝ }
-    ensures { λ r. ⌜ Stored (lineOf number value) at r (now (out .entry)) (now (out .exit)) ⌝ }
+    ensures { λ r. ⌜ Stored (lineFor event) at r (now (out .entry)) (now (out .exit)) ⌝ }
     ensures near { λ r. ⌜ r ≤ at + 13 ⌝ }
 {
-    let gap = put_decimal(out, at, number);
+    let gap = put_decimal(out, at, events::number_in(event));
     out[gap] = b' ';
-    let end = put_hex(out, gap + 1, value);
+    let end = put_hex(out, gap + 1, events::value_in(event));
     out[end] = b'\n';
     end + 1
 }
 
-fn put_lines(out: &mut [u8], numbers: &[u8], values: &[u32], count: usize) -> usize
-    requires { ⌜ (count ≤ length (now numbers)) × (count ≤ length (now values)) × (count ≤ 10000) × (13 * count ≤ length (now out)) ⌝ }
-    ensures { λ r. ⌜ Stored (linesFor (take count (now (numbers .entry))) (take count (now (values .entry)))) 0 r (now (out .entry)) (now (out .exit)) ⌝ }
+fn put_lines(out: &mut [u8], events: &[u64], count: usize) -> usize
+    requires { ⌜ (count ≤ length (now events)) × (count ≤ 10000) × (13 * count ≤ length (now out)) ⌝ }
+    ensures { λ r. ⌜ Stored (linesFor (take count (now (events .entry)))) 0 r (now (out .entry)) (now (out .exit)) ⌝ }
     ensures near { λ r. ⌜ r ≤ 13 * count ⌝ }
 {
     let mut i: usize = 0;
     let mut at: usize = 0;
     while i < count {
-        at = put_line(out, at, numbers[i], values[i]);
+        at = put_line(out, at, events[i]);
         i += 1;
     }
     at
@@ -106,29 +106,17 @@ fn put_word(out: &mut [u8], at: usize, reason: Reason) -> usize
     }
 }
 
-fn at_most_10000(count: usize) -> usize
-    ensures { λ r. ⌜ r ≡ min count 10000 ⌝ }
+// The text of the log's first events, as many as count says, but at most 10,000, and of the reason. The result is its size.
+pub fn write(events: &[u64; 10000], count: usize, reason: Reason, out: &mut [u8; 130006]) -> usize
+    ensures { λ r. ⌜ Printed (textFor (now (events .entry)) count reason) r (now (out .entry)) (now (out .exit)) ⌝ }
 {
-    if count < 10000 { count } else { 10000 }
-}
-
-// The text of the first numbers and values, and of the reason: as many as count says, but at most 10,000. The result is its size.
-pub fn write(
-    numbers: &[u8; 10000],
-    values: &[u32; 10000],
-    count: usize,
-    reason: Reason,
-    out: &mut [u8; 130006],
-) -> usize
-    ensures { λ r. ⌜ Written (textFor (now (numbers .entry)) (now (values .entry)) count reason) r (now (out .entry)) (now (out .exit)) ⌝ }
-{
-    let at = put_lines(out, numbers, values, at_most_10000(count));
+    let at = put_lines(out, events, fields::at_most(count, 10000));
     put_word(out, at, reason)
 }
 
 // The text for an input that is too long.
 pub fn write_long(out: &mut [u8; 130006]) -> usize
-    ensures { λ r. ⌜ Written longText r (now (out .entry)) (now (out .exit)) ⌝ }
+    ensures { λ r. ⌜ Printed longText r (now (out .entry)) (now (out .exit)) ⌝ }
 {
     put_bytes(out, 0, b"long\n")
 }

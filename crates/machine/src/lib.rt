@@ -1,22 +1,24 @@
 ghost use mathlib.Core.Path.{_≡_};
 ghost use mathlib.Core.Bool.{true, false, cond, _||_};
+ghost use mathlib.Core.List.{List};
+ghost use Prim.Native.Nat.{ℕ};
+ghost use lib.Dec.{eqb};
 ghost use Rattle.memory.specs.Memory.{memories};
-ghost use Rattle.steps.specs.Steps.{malformed};
+ghost use Rattle.steps.specs.Steps.{isWidth, malformed};
 ghost use Rattle.machine.specs.Machines.{withRegisters, withHalted, withLatched, withSegments, segmentIn, withSegment, segment, resetMachine};
-ghost use Rattle.machine.specs.Outcomes.{gives, ends, manages};
+ghost use Rattle.machine.specs.Outcomes.{gives, ends};
 ghost use Rattle.machine.specs.Service.{enteredMachine, entry, entryAtBoundary, entryBySmint, boundary, resume, permitted};
-ghost use Rattle.machine.specs.Steps.{window, ported, valid, advanced, saved, restored, opcode, performed, stepped};
-use access::Reply;
+ghost use Rattle.machine.specs.Steps.{window, resetStep, registersStep, readStep, writeStep, portStep, portReadStep, portWriteStep, haltStep, wakeStep, valid, advanced, saved, restored, operated, opcodeStep, performed, stepped};
 use config::Accessed;
 use config::Config;
 use config::Settings;
 use header::Level;
 use header::Registers;
 use header::Saved;
-use memory::Operand;
 use memory::Segment;
 use opcodes::Operation;
 use opcodes::SegmentName;
+use refusals::Verdict;
 use region::Region;
 use steps::Answer;
 use steps::Interruption;
@@ -47,6 +49,16 @@ pub struct Stepped {
     pub answer: Answer,
 }
 
+// The same segment, put together anew.
+fn fresh(s: Segment) -> Segment
+    ensures { λ r. ⌜ r ≡ s ⌝ }
+{
+    Segment {
+        selector: s.selector,
+        descriptor: s.descriptor,
+    }
+}
+
 fn segment_of(selector: u16, descriptor: u64) -> Segment
     ensures { λ r. ⌜ r ≡ segment selector descriptor ⌝ }
 {
@@ -56,54 +68,90 @@ fn segment_of(selector: u16, descriptor: u64) -> Segment
     }
 }
 
-// The machine after a reset.
-pub fn reset() -> Machine
-    ensures { λ r. ⌜ r ≡ resetMachine ⌝ }
-{
-    let cs = segment_of(0xF000, 0xFF0093FF0000FFFF);
-    let flat = segment_of(0, 0x000093000000FFFF);
-    let none = segment_of(0, 0);
-    let registers = Registers {
-        eip: 0xFFF0,
-        eflags: 2,
-        cr0: 0x60000010,
-        dr7: 0x400,
-        cs: cs,
-        level: Level::Zero,
-        writable: true,
-    };
-    let segments = Segments {
-        ds: flat,
-        es: flat,
-        fs: flat,
-        gs: flat,
-        ss: flat,
-        ldtr: none,
-        tr: none,
-    };
-    let settings = Settings {
-        ccr1: 0,
-        ccr3: 0,
-        high: 0,
-        middle: 0,
-        low: 0,
-    };
-    let config = Config {
-        settings: settings,
-        index: 0,
-        armed: false,
-    };
-    Machine {
-        registers: registers,
-        segments: segments,
-        halted: false,
-        inside: false,
-        latched: false,
-        config: config,
-    }
-}
-
 impl Machine {
+    // The machine after a reset, from which a program starts.
+    pub fn initial() -> Machine
+        ensures { λ r. ⌜ r ≡ resetMachine ⌝ }
+    {
+        let cs = segment_of(0xF000, 0xFF0093FF0000FFFF);
+        let flat = segment_of(0, 0x000093000000FFFF);
+        let none = segment_of(0, 0);
+        let registers = Registers {
+            eip: 0xFFF0,
+            eflags: 2,
+            cr0: 0x60000010,
+            dr7: 0x400,
+            cs: cs,
+            level: Level::Zero,
+            writable: true,
+        };
+        let segments = Segments {
+            ds: flat,
+            es: flat,
+            fs: flat,
+            gs: flat,
+            ss: flat,
+            ldtr: none,
+            tr: none,
+        };
+        let settings = Settings {
+            ccr1: 0,
+            ccr3: 0,
+            high: 0,
+            middle: 0,
+            low: 0,
+        };
+        let config = Config {
+            settings: settings,
+            index: 0,
+            armed: false,
+        };
+        Machine {
+            registers: registers,
+            segments: segments,
+            halted: false,
+            inside: false,
+            latched: false,
+            config: config,
+        }
+    }
+
+    // The same machine, put together field by field: the gaps between the fields are then not copied from step to step.
+    fn anew(self) -> Machine
+        ensures { λ r. ⌜ r ≡ self ⌝ }
+    {
+        let r = self.registers;
+        let s = self.segments;
+        let level = r.level;
+        let config = self.config;
+        let registers = Registers {
+            eip: r.eip,
+            eflags: r.eflags,
+            cr0: r.cr0,
+            dr7: r.dr7,
+            cs: fresh(r.cs),
+            level: level,
+            writable: r.writable,
+        };
+        let segments = Segments {
+            ds: fresh(s.ds),
+            es: fresh(s.es),
+            fs: fresh(s.fs),
+            gs: fresh(s.gs),
+            ss: fresh(s.ss),
+            ldtr: fresh(s.ldtr),
+            tr: fresh(s.tr),
+        };
+        Machine {
+            registers: registers,
+            segments: segments,
+            halted: self.halted,
+            inside: self.inside,
+            latched: self.latched,
+            config: config,
+        }
+    }
+
     fn answers(self, answer: Answer) -> Stepped
         ensures { λ r. ⌜ r ≡ gives self answer ⌝ }
     {
@@ -227,9 +275,10 @@ impl Machine {
         next
     }
 
-    // Entry: the header is written, and the machine goes to the handler.
+    // Entry: the header is written to management memory, and the machine goes to the handler.
     fn enter(self, management: &mut [u8], saved: Saved, latched: bool) -> Stepped
-        ensures { λ r. ⌜ manages r (now (management .exit)) ≡ entry self (now (management .entry)) saved latched ⌝ }
+        ensures { λ r. ⌜ ((main : List ℕ) → ends r (memories main (now (management .exit)))
+            ≡ entry self (memories main (now (management .entry))) saved latched) ⌝ }
     {
         let config = self.config;
         let settings = config.settings;
@@ -243,7 +292,8 @@ impl Machine {
         current: u32,
         interruption: Interruption,
     ) -> Stepped
-        ensures { λ r. ⌜ manages r (now (management .exit)) ≡ entryAtBoundary self (now (management .entry)) current interruption ⌝ }
+        ensures { λ r. ⌜ ((main : List ℕ) → ends r (memories main (now (management .exit)))
+            ≡ entryAtBoundary self (memories main (now (management .entry))) current interruption) ⌝ }
     {
         let registers = self.registers;
         let trap = header::trap_of(interruption);
@@ -260,7 +310,8 @@ impl Machine {
 
     // SMINT, which keeps the latch.
     fn enter_by_smint(self, management: &mut [u8], next: u32) -> Stepped
-        ensures { λ r. ⌜ manages r (now (management .exit)) ≡ entryBySmint self (now (management .entry)) next ⌝ }
+        ensures { λ r. ⌜ ((main : List ℕ) → ends r (memories main (now (management .exit)))
+            ≡ entryBySmint self (memories main (now (management .entry))) next) ⌝ }
     {
         let registers = self.registers;
         let trap = header::trap_of(Interruption::None);
@@ -273,35 +324,6 @@ impl Machine {
             halted: self.halted,
         };
         self.enter(management, saved, self.latched)
-    }
-
-    fn boundary(
-        self,
-        management: &mut [u8],
-        asserted: bool,
-        current: u32,
-        interruption: Interruption,
-    ) -> Stepped
-        ensures { λ r. ⌜ manages r (now (management .exit)) ≡ boundary self (now (management .entry)) asserted current interruption ⌝ }
-    {
-        if self.inside {
-            if asserted {
-                return self.with_latched(true).answers(Answer::Latched);
-            }
-            return self.answers(Answer::Nothing);
-        }
-        let config = self.config;
-        let settings = config.settings;
-        if settings.enables_smi() {
-            if any(asserted, self.latched) {
-                return self.enter_at_boundary(management, current, interruption);
-            }
-            return self.answers(Answer::Nothing);
-        }
-        if asserted {
-            return self.answers(Answer::Ignored);
-        }
-        self.answers(Answer::Nothing)
     }
 
     // RSM.
@@ -341,8 +363,18 @@ impl Machine {
         false
     }
 
+    fn is_valid(self, o: Operation) -> bool
+        ensures { λ r. ⌜ r ≡ valid self o ⌝ }
+    {
+        if self.permits() {
+            o.is_allowed(self.inside)
+        } else {
+            false
+        }
+    }
+
     // The region whose bytes management memory answers.
-    pub fn window(self) -> Region
+    fn window(self) -> Region
         ensures { λ r. ⌜ r ≡ window self ⌝ }
     {
         let config = self.config;
@@ -362,8 +394,10 @@ impl Machine {
         ensures { λ r. ⌜ ends r (memories (now (main .exit)) (now (management .exit)))
             ≡ saved self (memories (now (main .entry)) (now (management .entry))) name address next ⌝ }
     {
+        let window = self.window();
         let s = self.segment(name);
-        if memory::write_segment(self.window(), main, management, address, s) {
+        if memory::all_there(window, main.len(), address, 10) {
+            memory::store_segment(window, main, management, address, s);
             return self.advance(next).answers(Answer::Done);
         }
         self.answers(Answer::Absent)
@@ -380,24 +414,17 @@ impl Machine {
     ) -> Stepped
         ensures { λ r. ⌜ r ≡ restored self (memories (now (main .entry)) (now (management .entry))) name address next ⌝ }
     {
-        match memory::read_segment(self.window(), main, management, address) {
-            Operand::Whole(s) => self.with_segment(name, s)
+        let window = self.window();
+        if memory::all_there(window, main.len(), address, 10) {
+            let s = memory::load_segment(window, main, management, address);
+            return self.with_segment(name, s)
                 .advance(next)
-                .answers(Answer::Done),
-            Operand::Cut => self.answers(Answer::Absent),
+                .answers(Answer::Done);
         }
+        self.answers(Answer::Absent)
     }
 
-    fn is_valid(self, o: Operation) -> bool
-        ensures { λ r. ⌜ r ≡ valid self o ⌝ }
-    {
-        if self.permits() {
-            o.is_allowed(self.inside)
-        } else {
-            false
-        }
-    }
-
+    // A valid operation.
     fn operate(
         self,
         main: &mut [u8],
@@ -407,23 +434,20 @@ impl Machine {
         next: u32,
     ) -> Stepped
         ensures { λ r. ⌜ ends r (memories (now (main .exit)) (now (management .exit)))
-            ≡ opcode self (memories (now (main .entry)) (now (management .entry))) o address next ⌝ }
+            ≡ operated self (memories (now (main .entry)) (now (management .entry))) o address next ⌝ }
     {
-        if self.is_valid(o) {
-            return match o {
-                Operation::Save(name) => self.save(main, management, name, address, next),
-                Operation::Restore(name) => self.restore(main, management, name, address, next),
-                Operation::Smint => self.enter_by_smint(management, next),
-                Operation::Rsm => self.resume(management),
-                Operation::Undefined => self.answers(Answer::Invalid),
-            };
+        match o {
+            Operation::Save(name) => self.save(main, management, name, address, next),
+            Operation::Restore(name) => self.restore(main, management, name, address, next),
+            Operation::Smint => self.enter_by_smint(management, next),
+            Operation::Rsm => self.resume(management),
+            Operation::Undefined => self.answers(Answer::Invalid),
         }
-        self.answers(Answer::Invalid)
     }
 
     // The machine after a port access, and the answer.
     fn ported(self, access: Accessed) -> Stepped
-        ensures { λ r. ⌜ r ≡ ported self access ⌝ }
+        ensures { λ r. ⌜ r ≡ portStep self access ⌝ }
     {
         let mut next = self;
         let config = access.config;
@@ -432,14 +456,152 @@ impl Machine {
         next.answers(answer)
     }
 
-    // A step that is not malformed, and not refused while halted, on memories of the right sizes.
+    // ---- the steps
+
+    fn reset(self) -> Stepped
+        ensures { λ r. ⌜ r ≡ resetStep ⌝ }
+    {
+        Machine::initial().answers(Answer::Done)
+    }
+
+    fn load_registers(
+        self,
+        eip: u32,
+        eflags: u32,
+        cr0: u32,
+        dr7: u32,
+        selector: u16,
+        descriptor: u64,
+        level: u8,
+        writable: u8,
+    ) -> Stepped
+        ensures { λ r. ⌜ r ≡ registersStep self eip eflags cr0 dr7 selector descriptor level writable ⌝ }
+    {
+        let cs = segment_of(selector, descriptor);
+        let l = header::level_of(level);
+        let registers = Registers {
+            eip: eip,
+            eflags: eflags,
+            cr0: cr0,
+            dr7: dr7,
+            cs: cs,
+            level: l,
+            writable: writable == 1,
+        };
+        self.with_registers(registers).answers(Answer::Done)
+    }
+
+    fn read(self, main: &[u8], management: &[u8], width: u8, address: u32) -> Stepped
+        requires { ⌜ isWidth width ≡ true ⌝ }
+        ensures { λ r. ⌜ r ≡ readStep self (memories (now (main .entry)) (now (management .entry))) width address ⌝ }
+    {
+        let answer = memory::read(self.window(), main, management, address, width);
+        self.answers(answer)
+    }
+
+    fn write(
+        self,
+        main: &mut [u8],
+        management: &mut [u8],
+        width: u8,
+        address: u32,
+        value: u32,
+    ) -> Stepped
+        ensures { λ r. ⌜ ends r (memories (now (main .exit)) (now (management .exit)))
+            ≡ writeStep self (memories (now (main .entry)) (now (management .entry))) width address value ⌝ }
+    {
+        let answer = memory::write(self.window(), main, management, address, width, value);
+        self.answers(answer)
+    }
+
+    fn read_port(self, port: u16) -> Stepped
+        ensures { λ r. ⌜ r ≡ portReadStep self port ⌝ }
+    {
+        let config = self.config;
+        self.ported(config.read(port))
+    }
+
+    fn write_port(self, port: u16, value: u8) -> Stepped
+        ensures { λ r. ⌜ r ≡ portWriteStep self port value ⌝ }
+    {
+        let config = self.config;
+        self.ported(config.write(port, value, self.inside))
+    }
+
+    fn opcode(
+        self,
+        main: &mut [u8],
+        management: &mut [u8],
+        opcode: u8,
+        modrm: u8,
+        address: u32,
+        next: u32,
+    ) -> Stepped
+        ensures { λ r. ⌜ ends r (memories (now (main .exit)) (now (management .exit)))
+            ≡ opcodeStep self (memories (now (main .entry)) (now (management .entry))) opcode modrm address next ⌝ }
+    {
+        let o = opcodes::decode(opcode, modrm);
+        if self.is_valid(o) {
+            return self.operate(main, management, o, address, next);
+        }
+        self.answers(Answer::Invalid)
+    }
+
+    fn boundary(
+        self,
+        management: &mut [u8],
+        smi: u8,
+        current: u32,
+        interruption: Interruption,
+    ) -> Stepped
+        ensures { λ r. ⌜ ((main : List ℕ) → ends r (memories main (now (management .exit)))
+            ≡ boundary self (memories main (now (management .entry))) (eqb smi 1) current interruption) ⌝ }
+    {
+        let asserted = smi == 1;
+        if self.inside {
+            if asserted {
+                return self.with_latched(true).answers(Answer::Latched);
+            }
+            return self.answers(Answer::Nothing);
+        }
+        let config = self.config;
+        let settings = config.settings;
+        if settings.enables_smi() {
+            if any(asserted, self.latched) {
+                return self.enter_at_boundary(management, current, interruption);
+            }
+            return self.answers(Answer::Nothing);
+        }
+        if asserted {
+            return self.answers(Answer::Ignored);
+        }
+        self.answers(Answer::Nothing)
+    }
+
+    fn halt(self) -> Stepped
+        ensures { λ r. ⌜ r ≡ haltStep self ⌝ }
+    {
+        self.with_halted(true).answers(Answer::Done)
+    }
+
+    fn wake(self) -> Stepped
+        ensures { λ r. ⌜ r ≡ wakeStep self ⌝ }
+    {
+        self.with_halted(false).answers(Answer::Done)
+    }
+
+    // A step that no refusal of 1 to 3 stops. But for the data accesses each result has a local of its own: so the compiler does without
+    // copying the machine at a data access, which most records are.
     fn perform(self, main: &mut [u8], management: &mut [u8], s: Step) -> Stepped
         requires { ⌜ malformed s ≡ false ⌝ }
         ensures { λ r. ⌜ ends r (memories (now (main .exit)) (now (management .exit)))
             ≡ performed self (memories (now (main .entry)) (now (management .entry))) s ⌝ }
     {
         match s {
-            Step::Reset => reset().answers(Answer::Done),
+            Step::Reset => {
+                let r = self.reset();
+                r
+            }
             Step::Registers {
                 eip,
                 eflags,
@@ -450,70 +612,70 @@ impl Machine {
                 level,
                 writable,
             } => {
-                let cs = segment_of(selector, descriptor);
-                let l = header::level_of(level);
-                let registers = Registers {
-                    eip: eip,
-                    eflags: eflags,
-                    cr0: cr0,
-                    dr7: dr7,
-                    cs: cs,
-                    level: l,
-                    writable: writable == 1,
-                };
-                self.with_registers(registers).answers(Answer::Done)
+                let r = self.load_registers(
+                    eip,
+                    eflags,
+                    cr0,
+                    dr7,
+                    selector,
+                    descriptor,
+                    level,
+                    writable,
+                );
+                r
             }
-            Step::Read { width, address } => {
-                let window = self.window();
-                self.answers(memory::read(window, main, management, address, width))
-            }
+            Step::Read { width, address } => self.read(main, management, width, address),
             Step::Write {
                 width,
                 address,
                 value,
-            } => {
-                let window = self.window();
-                self.answers(memory::write(window, main, management, address, width, value))
-            }
+            } => self.write(main, management, width, address, value),
             Step::PortRead { port } => {
-                let config = self.config;
-                self.ported(config.read(port))
+                let r = self.read_port(port);
+                r
             }
             Step::PortWrite { port, value } => {
-                let config = self.config;
-                self.ported(config.write(port, value, self.inside))
+                let r = self.write_port(port, value);
+                r
             }
             Step::Opcode {
                 opcode,
                 modrm,
                 address,
                 next,
-            } => self.operate(
-                main,
-                management,
-                opcodes::decode(opcode, modrm),
-                address,
-                next,
-            ),
+            } => {
+                let r = self.opcode(main, management, opcode, modrm, address, next);
+                r
+            }
             Step::Boundary {
                 smi,
                 current,
                 interruption,
-            } => self.boundary(management, smi == 1, current, interruption),
+            } => {
+                let r = self.boundary(management, smi, current, interruption);
+                r
+            }
             Step::UnnamedBoundary => self.answers(Answer::Malformed),
-            Step::Halt => self.with_halted(true).answers(Answer::Done),
-            Step::Wake => self.with_halted(false).answers(Answer::Done),
+            Step::Halt => {
+                let r = self.halt();
+                r
+            }
+            Step::Wake => {
+                let r = self.wake();
+                r
+            }
         }
     }
 
-    // One step. Refusals are tested in the order of their numbers.
+    // One step.
     pub fn step(self, main: &mut [u8], management: &mut [u8], s: Step) -> Stepped
         ensures { λ r. ⌜ ends r (memories (now (main .exit)) (now (management .exit)))
             ≡ stepped self (memories (now (main .entry)) (now (management .entry))) s ⌝ }
     {
-        match access::early_refusal(self.halted, main, management, s) {
-            Reply::Answered(a) => self.answers(a),
-            Reply::Deferred => self.perform(main, management, s),
+        let m = self.anew();
+        match refusals::first_refusal(m.halted, main, management, s) {
+            Verdict::Refused(a) => m.answers(a),
+            Verdict::Allowed => m.perform(main, management, s),
         }
     }
 }

@@ -1,6 +1,6 @@
 ghost use mathlib.Core.Path.{_≡_};
 ghost use Prim.Native.Nat.{_^_, _≤_, _<_, min};
-ghost use Rattle.memory.specs.Memory.{memories, byteAt, storeByte, absent, allThere, load, store, reaches, attempt, reads, writes, readsSegment, writesSegment};
+ghost use Rattle.memory.specs.Memory.{memories, byteAt, storeByte, absent, allThere, load, store, reaches, reads, writes, segmentAt, storeSegment};
 ghost use Rattle.memory.specs.Route.{Routed};
 use region::Region;
 use steps::Answer;
@@ -9,12 +9,6 @@ use steps::Answer;
 pub struct Segment {
     pub selector: u16,
     pub descriptor: u64,
-}
-
-// What reading a segment finds.
-pub enum Operand {
-    Whole(Segment),
-    Cut,
 }
 
 // The memory that answers all bytes of an access; bytewise where they are to be taken one by one.
@@ -75,8 +69,8 @@ fn is_absent(window: Region, end: usize, address: u64) -> bool
     end as u64 <= address
 }
 
-// Whether a memory answers each of count bytes from an address on.
-fn all_there(window: Region, end: usize, address: u32, count: u8) -> bool
+// Whether a memory answers each of count bytes from an address on, where main memory has a given length.
+pub fn all_there(window: Region, end: usize, address: u32, count: u8) -> bool
     ensures { λ r. ⌜ r ≡ allThere window end address count ⌝ }
 {
     let mut at = address as u64;
@@ -157,12 +151,6 @@ fn route_of(window: Region, end: usize, address: u32, count: u8) -> Route
     Route::Main
 }
 
-fn at_most_four(width: u8) -> u8
-    ensures { λ r. ⌜ (r ≡ min width 4) × (r ≤ 4) ⌝ }
-{
-    if width <= 4 { width } else { 4 }
-}
-
 fn read_bytewise(window: Region, main: &[u8], management: &[u8], address: u32, count: u8) -> Answer
     requires { ⌜ count ≤ 4 ⌝ }
     ensures { λ r. ⌜ r ≡ reads window (memories (now (main .entry)) (now (management .entry))) address count ⌝ }
@@ -196,7 +184,7 @@ fn write_bytewise(
 pub fn read(window: Region, main: &[u8], management: &[u8], address: u32, width: u8) -> Answer
     ensures { λ r. ⌜ r ≡ reads window (memories (now (main .entry)) (now (management .entry))) address (min width 4) ⌝ }
 {
-    let count = at_most_four(width);
+    let count = fields::at_most(width as usize, 4) as u8;
     match route_of(window, main.len(), address, count) {
         Route::Main => {
             let v = fields::number_at(main, address as usize, count);
@@ -238,45 +226,36 @@ pub fn write(
     }
 }
 
-// Reads a segment's ten bytes from an address on.
-pub fn read_segment(window: Region, main: &[u8], management: &[u8], address: u32) -> Operand
-    ensures { λ r. ⌜ r ≡ readsSegment window (memories (now (main .entry)) (now (management .entry))) address ⌝ }
+// The segment in the ten bytes from an address on.
+pub fn load_segment(window: Region, main: &[u8], management: &[u8], address: u32) -> Segment
+    ensures { λ r. ⌜ r ≡ segmentAt window (memories (now (main .entry)) (now (management .entry))) address ⌝ }
 {
-    if all_there(window, main.len(), address, 10) {
-        let descriptor = load_at(window, main, management, address as u64, 8);
-        let selector = load_at(window, main, management, address as u64 + 8, 2) as u16;
-        let s = Segment {
-            selector: selector,
-            descriptor: descriptor,
-        };
-        return Operand::Whole(s);
+    let descriptor = load_at(window, main, management, address as u64, 8);
+    let selector = load_at(window, main, management, address as u64 + 8, 2) as u16;
+    Segment {
+        selector: selector,
+        descriptor: descriptor,
     }
-    Operand::Cut
 }
 
-// Writes a segment's ten bytes from an address on, and says whether it did: where a byte is absent, nothing is written.
-pub fn write_segment(
+// Stores a segment's ten bytes from an address on.
+pub fn store_segment(
     window: Region,
     main: &mut [u8],
     management: &mut [u8],
     address: u32,
     s: Segment,
-) -> bool
-    ensures { λ r. ⌜ attempt r (memories (now (main .exit)) (now (management .exit)))
-        ≡ writesSegment window (memories (now (main .entry)) (now (management .entry))) address s ⌝ }
+)
+    ensures { λ r. ⌜ memories (now (main .exit)) (now (management .exit))
+        ≡ storeSegment window (memories (now (main .entry)) (now (management .entry))) address s ⌝ }
 {
-    let end = main.len();
-    if all_there(window, end, address, 10) {
-        store_at(window, main, management, address as u64, 8, s.descriptor);
-        store_at(
-            window,
-            main,
-            management,
-            address as u64 + 8,
-            2,
-            s.selector as u64,
-        );
-        return true;
-    }
-    false
+    store_at(window, main, management, address as u64, 8, s.descriptor);
+    store_at(
+        window,
+        main,
+        management,
+        address as u64 + 8,
+        2,
+        s.selector as u64,
+    );
 }

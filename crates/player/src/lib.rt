@@ -1,7 +1,5 @@
-use access::Reply;
 use lines::Reason;
 use machine::Machine;
-use steps::Answer;
 use trace::Found;
 ghost use mathlib.Core.Path.{_≡_};
 ghost use Prim.Native.Nat.{_<_};
@@ -20,30 +18,17 @@ pub struct Played {
     pub reason: Reason,
 }
 
-// Puts an answer's number and value into the two lists.
-fn put(numbers: &mut [u8; 10000], values: &mut [u32; 10000], at: usize, answer: Answer)
-    requires { ⌜ at < 10000 ⌝ }
-    ensures { λ r. ⌜ (now (numbers .exit) ≡ set (now (numbers .entry)) at (numberOf answer))
-        × (now (values .exit) ≡ set (now (values .entry)) at (valueOf answer)) ⌝ }
-{
-    numbers[at] = answer.number();
-    values[at] = answer.value();
-}
-
-// Plays a trace from its start. The numbers and the values of the answers go to the two lists, as many as there were records. Refusals 1
-// to 3 and data accesses don't go through the machine, since handing it over costs more than an access.
+// Plays a trace from its start. What is noted of each record goes to the list, as many as there were records.
 pub fn play(
     trace: &[u8],
     start: Machine,
     main: &mut [u8],
     management: &mut [u8],
-    numbers: &mut [u8; 10000],
-    values: &mut [u32; 10000],
+    events: &mut [u64; 10000],
 ) -> Played
-    ensures { λ r. ⌜ Plays (held (now (trace .entry)))
+    ensures { λ r. ⌜ Plays (scriptOf (now (trace .entry)))
         (playing start (memories (now (main .entry)) (now (management .entry))) (now (trace .entry)))
-        r (memories (now (main .exit)) (now (management .exit)))
-        (now (numbers .entry)) (now (numbers .exit)) (now (values .entry)) (now (values .exit)) ⌝ }
+        r (memories (now (main .exit)) (now (management .exit))) (now (events .entry)) (now (events .exit)) ⌝ }
 {
     let mut machine = start;
     let mut place: usize = 0;
@@ -57,20 +42,13 @@ pub fn play(
         }
         match trace::record_at(trace, place) {
             Found::Record { step, next } => {
-                let window = machine.window();
-                match access::early_reply(window, machine.halted, main, management, step) {
-                    Reply::Answered(answer) => {
-                        put(numbers, values, count, answer);
-                    }
-                    Reply::Deferred => {
-                        let stepped = machine.step(main, management, step);
-                        let answer = stepped.answer;
-                        put(numbers, values, count, answer);
-                        machine = stepped.machine;
-                    }
-                }
+                let inside = machine.inside;
+                let stepped = machine.step(main, management, step);
+                let answer = stepped.answer;
+                events[count] = events::note(step, inside, answer);
                 place = next;
                 count += 1;
+                machine = stepped.machine;
             }
             Found::End => {
                 break Reason::End;
@@ -91,7 +69,7 @@ pub fn play(
 }
 
 // Plays a trace and writes its text. The result is the text's size.
-pub fn replay(
+fn replay(
     trace: &[u8],
     start: Machine,
     main: &mut [u8],
@@ -102,11 +80,10 @@ pub fn replay(
         (playing start (memories (now (main .entry)) (now (management .entry))) (now (trace .entry)))
         r (memories (now (main .exit)) (now (management .exit))) (now (out .entry)) (now (out .exit)) ⌝ }
 {
-    let mut numbers = [0u8; 10000];
-    let mut values = [0u32; 10000];
-    let played = play(trace, start, main, management, &mut numbers, &mut values);
+    let mut events = [0u64; 10000];
+    let played = play(trace, start, main, management, &mut events);
     let reason = played.reason;
-    lines::write(&numbers, &values, played.count, reason, out)
+    lines::write(&events, played.count, reason, out)
 }
 
 // All that the program prints for an input. The result is its size.
@@ -118,5 +95,5 @@ pub fn output(input: &[u8], out: &mut [u8; 130006]) -> usize
     }
     let mut main = [0u8; 65536];
     let mut management = [0u8; 65536];
-    replay(input, machine::reset(), &mut main, &mut management, out)
+    replay(input, Machine::initial(), &mut main, &mut management, out)
 }
