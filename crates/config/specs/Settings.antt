@@ -1,13 +1,14 @@
--- 01, "What the machine holds" and "Lock": the five stored bytes, what their bits say, and what a write leaves.
-use Prim.Native.Nat.{ℕ, zero, suc, _+_, _*_, _/_, _%_, _-_}
+-- 01, "What the machine holds", "Routing" and "Lock": the five stored bytes, what their bits say, and what a write leaves.
+use Prim.Native.Nat.{ℕ, _/_, _%_, _-_}
 use mathlib.Core.Path.{_≡_}
 use mathlib.Core.Bool.{Bool, cond, not, _&&_, _||_}
+use lib.Bits.{bitAnd, bitOr}
 use lib.Dec.{eqb}
 use Rattle.region.specs.Region.{regionOf, sizeOf, usable}
 use Rattle.region.specs.declared.Region.{Region}
 use Rattle.config.specs.declared.Settings.{Settings}
 
--- "CCR1 (index C1h): bit 1 USE_SMI, bit 2 SMAC, bit 3 MMAC."
+-- CCR1, at index C1h: bit 1 USE_SMI, bit 2 SMAC, bit 3 MMAC
 abbrev pub useSmi : Settings → Bool
 useSmi s = eqb (s .ccr1 / 2 % 2) 1
 
@@ -17,7 +18,7 @@ smac s = eqb (s .ccr1 / 4 % 2) 1
 abbrev pub mmac : Settings → Bool
 mmac s = eqb (s .ccr1 / 8 % 2) 1
 
--- "CCR3 (C3h): bit 0 SMI_LOCK"
+-- CCR3, at index C3h: bit 0 SMI_LOCK. No rule reads its bit 1, NMI_EN, which the lock covers too.
 abbrev pub smiLock : Settings → Bool
 smiLock s = eqb (s .ccr3 % 2) 1
 
@@ -25,22 +26,21 @@ smiLock s = eqb (s .ccr3 % 2) 1
 abbrev pub regionIn : Settings → Region
 regionIn s = regionOf (s .high) (s .middle) (s .low)
 
--- "A data or operand byte goes to management memory when its address is in a usable region, USE_SMI is 1, and either the machine is
--- outside the mode with SMAC 1, or inside with MMAC 0. All else goes to main." That the region is usable is part of being in it: a
--- window of code 0 has no address.
+-- The region whose bytes management memory answers. With USE_SMI it is open outside the mode where SMAC is set, and inside where MMAC is
+-- clear; otherwise its code is 0, which names no address. That the region has to be usable is part of being in it.
 unfoldable pub windowOf : Settings → Bool → Region
 windowOf s inside =
     cond (useSmi s && cond inside (not (mmac s)) (smac s)) (regionIn s) (record { base = regionIn s .base; code = 0 })
 
--- "Outside, SMIs are enabled when USE_SMI is 1, SMAC 0 and the region usable."
+-- 01, "Boundary": whether SMIs are enabled outside the mode
 unfoldable pub enabled : Settings → Bool
 enabled s = useSmi s && not (smac s) && usable (regionIn s)
 
--- "Forty-eight bytes below the top": the place in management memory of the header's first byte
+-- 01, "Forty-eight bytes below the top": the place in management memory of the header's first byte. A usable region has room for it.
 unfoldable pub headerPlace : Settings → ℕ
 headerPlace s = sizeOf (regionIn s .code) - 48
 
--- the stored byte at an index, 0 at one that names none. "Internal indexes that aren't named above read 0 and drop writes."
+-- the stored byte at an index; one that names none of the five reads 0
 unfoldable pub byteOf : Settings → ℕ → ℕ
 byteOf s i =
     cond (eqb i 0xc1) (s .ccr1)
@@ -49,6 +49,7 @@ byteOf s i =
     (cond (eqb i 0xce) (s .middle)
     (cond (eqb i 0xcf) (s .low) 0))))
 
+-- another byte stored there; at an index that names none of the five it is dropped
 unfoldable pub withByte : Settings → ℕ → ℕ → Settings
 withByte s i v = record {
   ccr1 = cond (eqb i 0xc1) v (s .ccr1);
@@ -58,36 +59,26 @@ withByte s i v = record {
   low = cond (eqb i 0xcf) v (s .low);
 }
 
--- The bits that the lock covers outside the mode, by index: "CCR1 bits 1 to 3, CCR3 bit 1 and the SMAR bytes keep their values", and
--- CCR3 bit 0, SMI_LOCK, which "falls only at reset".
+-- 01, "Lock": the bits that the lock covers outside the mode, by index. CCR3 bit 0 is SMI_LOCK, which only a reset clears.
 unfoldable pub lockedBits : ℕ → ℕ
 lockedBits i = cond (eqb i 0xc1) 0x0e (cond (eqb i 0xc3) 0x03 (cond (eqb i 0xcd || eqb i 0xce || eqb i 0xcf) 0xff 0))
 
--- The bits that it covers inside: "SMI_LOCK itself falls only at reset, also for a handler."
+-- and inside it, where a handler may write all but SMI_LOCK
 unfoldable pub stickyBits : ℕ → ℕ
 stickyBits i = cond (eqb i 0xc3) 0x01 0
 
--- "with SMI_LOCK 1 before the write"
+-- the bits of the byte at an index that a write leaves. The lock is the one before the write.
 unfoldable pub keptBits : Settings → ℕ → Bool → ℕ
 keptBits s i inside = cond (smiLock s) (cond inside (stickyBits i) (lockedBits i)) 0
 
--- Of the lowest n bits, those of old where the mask has them and those of v elsewhere. Above them are old's, of which a byte has none:
--- so a byte whose bits are all kept is old itself.
-unfoldable pub mergedBits : ℕ → ℕ → ℕ → ℕ → ℕ
-mergedBits zero mask old v = old
-mergedBits (suc n) mask old v = cond (eqb (mask % 2) 1) (old % 2) (v % 2) + 2 * mergedBits n (mask / 2) (old / 2) (v / 2)
-
+-- a byte of the old bits under a mask, and of the new ones elsewhere
 unfoldable pub merged : ℕ → ℕ → ℕ → ℕ
-merged mask old v = mergedBits 8 mask old v
+merged mask old new = bitOr (bitAnd old mask) (bitAnd new (0xff - mask))
 
--- "Lock": the covered bits "keep their values; other bits of the byte are written"
+-- a write to the byte at an index
 unfoldable pub written : Settings → ℕ → ℕ → Bool → Settings
 written s i v inside = withByte s i (merged (keptBits s i inside) (byteOf s i) v)
 
--- "What demand 3 compares": the locked bits of the byte at an index, the others 0
-unfoldable pub lockedPart : Settings → ℕ → ℕ
-lockedPart s i = merged (lockedBits i) (byteOf s i) 0
-
--- "The locked settings are CCR1 bits 1 to 3, CCR3 bits 0 and 1, and the SMAR bytes": they are the same in both
+-- 01, "What demand 3 compares": two settings have the same locked bits at every index
 pub record SameLocked (s t : Settings) : Type 0 where
-  pub same : (i : ℕ) → lockedPart s i ≡ lockedPart t i
+  pub same : (i : ℕ) → bitAnd (byteOf s i) (lockedBits i) ≡ bitAnd (byteOf t i) (lockedBits i)

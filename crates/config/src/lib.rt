@@ -2,7 +2,8 @@ ghost use mathlib.Core.Path.{_≡_};
 ghost use mathlib.Core.Bool.{false, _&&_};
 ghost use lib.Dec.{eqb};
 ghost use Rattle.config.specs.Settings.{useSmi, smac, mmac, smiLock, regionIn, windowOf, enabled, headerPlace, byteOf, withByte, lockedBits, stickyBits, keptBits, merged, written};
-ghost use Rattle.config.specs.Ports.{internal, indexed, gives, portRead, portWrite};
+ghost use Rattle.config.specs.Locked.{SettingsFit, LockedAsListed};
+ghost use Rattle.config.specs.Ports.{internal, indexed, answering, portRead, portWrite};
 ghost use Rattle.steps.specs.declared.Answer.the-variants.{External};
 use region::Region;
 use steps::Answer;
@@ -154,7 +155,7 @@ impl Settings {
     }
 
     // The stored byte at an internal index.
-    pub fn byte(self, index: u8) -> u8
+    fn byte(self, index: u8) -> u8
         ensures { λ r. ⌜ r ≡ byteOf self index ⌝ }
     {
         match index {
@@ -206,13 +207,22 @@ impl Settings {
     }
 
     // The settings after a write to an internal index. The lock is tested on the settings before it.
-    pub fn write(self, index: u8, value: u8, inside: bool) -> Settings
+    fn write(self, index: u8, value: u8, inside: bool) -> Settings
         ensures { λ r. ⌜ r ≡ written self index value inside ⌝ }
     {
         let old = self.byte(index);
         self.with_byte(index, merge(self.kept_bits(index, inside), old, value))
     }
 }
+
+// No code of the model: these hold the gate to the bytes' width, and to what the lock's table covers.
+fn widths(s: Settings)
+    ensures { λ r. ⌜ SettingsFit s ⌝ }
+{}
+
+fn laws()
+    ensures { λ r. ⌜ LockedAsListed ⌝ }
+{}
 
 // A byte as a value that is answered.
 fn wide(x: u8) -> u32
@@ -241,7 +251,7 @@ impl Config {
     }
 
     fn external(self) -> Accessed
-        ensures { λ r. ⌜ r ≡ gives self External ⌝ }
+        ensures { λ r. ⌜ r ≡ answering self External ⌝ }
     {
         Accessed {
             config: self,

@@ -8,11 +8,11 @@ use Rattle.memory.specs.declared.Segment.{Segment}
 use Rattle.header.specs.declared.Level.the-variants.{Zero}
 use Rattle.header.specs.declared.Registers.{Registers}
 
--- "CR0 with bits 0, 2, 3 and 31 cleared"
+-- CR0 loses bits 0, 2, 3 and 31
 unfoldable pub entryCr0 : ℕ → ℕ
 entryCr0 c = bitAnd c 0x7ffffff2
 
--- "CS gets base bits 19-12 as its high byte and 00h low; descriptor FF FF b0 b1 b2 93 8F b3, with b0 to b3 the base's bytes, low first."
+-- CS: bits 19-12 of the base are the selector's high byte, and the base's four bytes stand in the descriptor at their usual places
 unfoldable pub entryCs : ℕ → Segment
 unfolding numberBy
 entryCs base = record {
@@ -22,6 +22,6 @@ entryCs base = record {
       (0xff ∷ 0xff ∷ base % 256 ∷ base / 256 % 256 ∷ base / 65536 % 256 ∷ 0x93 ∷ 0x8f ∷ base / 16777216 % 256 ∷ []);
 }
 
--- "Entry then sets EIP 0, EFLAGS 2, DR7 400h, CR0 with bits 0, 2, 3 and 31 cleared, level 0, writable"
+-- all that entry loads, from the registers before it and the region's base
 unfoldable pub entryRegisters : Registers → ℕ → Registers
 entryRegisters r base = record { eip = 0; eflags = 2; cr0 = entryCr0 (r .cr0); dr7 = 0x400; cs = entryCs base; level = Zero; writable = true }

@@ -4,7 +4,7 @@ use mathlib.Core.Bool.{Bool, true, false, cond}
 use mathlib.Core.List.{List, [], _∷_, map, flatMap}
 use lib.Dec.{eqb}
 use lib.Seq.{sets}
-use Rattle.fields.specs.Fields.{fieldAt, bytesOf}
+use Rattle.fields.specs.Fields.{fieldAt, bytesOf, bit}
 use Rattle.steps.specs.declared.Transfer.{Transfer}
 use Rattle.steps.specs.declared.Interruption.{Interruption}
 use Rattle.steps.specs.declared.Interruption.the-variants.{None, Input, Output, StringInput, StringOutput, RepInput, RepOutput}
@@ -14,29 +14,30 @@ use Rattle.header.specs.declared.Registers.{Registers}
 use Rattle.header.specs.declared.Trap.{Trap}
 use Rattle.header.specs.declared.Saved.{Saved}
 
--- "the privilege level 0 to 3"
+-- the privilege levels
 abbrev pub levelNumber : Level → ℕ
 levelNumber Zero = 0
 levelNumber One = 1
 levelNumber Two = 2
 levelNumber Three = 3
 
--- the level of a number; the steps refuse one above 3, and the header has room for none
+-- the level of a number; the steps refuse one above 3, and two bits of the header hold none
 abbrev pub levelOf : ℕ → Level
 levelOf n = cond (eqb n 0) Zero (cond (eqb n 1) One (cond (eqb n 2) Two Three))
 
--- "port bits 15-0, size 1h, 3h or Fh in bits 31-16", for sizes 1, 2 and 4; the steps refuse any other
+-- the size of an output, as the header has it: a bit for each byte. The steps refuse other sizes than 1, 2 and 4.
 unfoldable pub sizeBits : ℕ → ℕ
 sizeBits size = cond (eqb size 1) 0x1 (cond (eqb size 2) 0x3 0xf)
 
+-- the port in bits 15-0, the size in bits 31-16
 abbrev pub portSize : Transfer → ℕ
 portSize t = t .port + 65536 * sizeBits (t .size)
 
--- "output data cut to its size", for sizes 1, 2 and 4
+-- an output's data, cut to its size
 unfoldable pub cut : Transfer → ℕ
 cut t = cond (eqb (t .size) 1) (t .value % 256) (cond (eqb (t .size) 2) (t .value % 65536) (t .value))
 
--- what is recorded of an interruption: I, P, the word of port and size, the output's data, ESI or EDI. "Fields that don't apply are zero."
+-- what is recorded of an interruption: I, P, the word of port and size, the output's data, ESI or EDI. What doesn't apply is 0.
 abbrev pub trap : Bool → Bool → ℕ → ℕ → ℕ → Trap
 trap i p transfer value index = record { output = i; rep = p; transfer = transfer; value = value; index = index }
 
@@ -49,45 +50,42 @@ trapOf (StringOutput t i) = trap true false (portSize t) (cut t) i
 trapOf (RepInput i) = trap false true 0 0 i
 trapOf (RepOutput t i) = trap true true (portSize t) (cut t) i
 
-abbrev pub bit : Bool → ℕ
-bit b = cond b 1 0
-
 -- the table's words
 pub data Word : Type 0 where
   Dr7 Eflags Cr0 CurrentIp NextIp CsLevel DescriptorHigh DescriptorLow Flags PortSize OutputData StringIndex : Word
 
--- the column "at": how far below the region's end each word begins
-abbrev pub below : Word → ℕ
-below Dr7 = 0x4
-below Eflags = 0x8
-below Cr0 = 0xc
-below CurrentIp = 0x10
-below NextIp = 0x14
-below CsLevel = 0x18
-below DescriptorHigh = 0x1c
-below DescriptorLow = 0x20
-below Flags = 0x24
-below PortSize = 0x28
-below OutputData = 0x2c
-below StringIndex = 0x30
+-- the table's first column: how far below the region's end each word begins
+abbrev pub depth : Word → ℕ
+depth Dr7 = 0x4
+depth Eflags = 0x8
+depth Cr0 = 0xc
+depth CurrentIp = 0x10
+depth NextIp = 0x14
+depth CsLevel = 0x18
+depth DescriptorHigh = 0x1c
+depth DescriptorLow = 0x20
+depth Flags = 0x24
+depth PortSize = 0x28
+depth OutputData = 0x2c
+depth StringIndex = 0x30
 
--- the column "holds". "C is writable code, I an output, P a REP form, S SMINT, H halted."
-abbrev pub holds : Saved → Word → ℕ
-holds s Dr7 = s .registers .dr7
-holds s Eflags = s .registers .eflags
-holds s Cr0 = s .registers .cr0
-holds s CurrentIp = s .current
-holds s NextIp = s .next
-holds s CsLevel = s .registers .cs .selector + 2097152 * levelNumber (s .registers .level)
-holds s DescriptorHigh = s .registers .cs .descriptor / 4294967296
-holds s DescriptorLow = s .registers .cs .descriptor % 4294967296
-holds s Flags =
+-- its second column: what each word holds. The flags are C, a writable code segment, I, an output, P, a REP form, S, SMINT, and H, halted.
+abbrev pub contents : Saved → Word → ℕ
+contents s Dr7 = s .registers .dr7
+contents s Eflags = s .registers .eflags
+contents s Cr0 = s .registers .cr0
+contents s CurrentIp = s .current
+contents s NextIp = s .next
+contents s CsLevel = s .registers .cs .selector + 2097152 * levelNumber (s .registers .level)
+contents s DescriptorHigh = s .registers .cs .descriptor / 4294967296
+contents s DescriptorLow = s .registers .cs .descriptor % 4294967296
+contents s Flags =
     bit (s .registers .writable) + 2 * bit (s .trap .output) + 4 * bit (s .trap .rep) + 8 * bit (s .smint) + 16 * bit (s .halted)
-holds s PortSize = s .trap .transfer
-holds s OutputData = s .trap .value
-holds s StringIndex = s .trap .index
+contents s PortSize = s .trap .transfer
+contents s OutputData = s .trap .value
+contents s StringIndex = s .trap .index
 
--- the words from -30h up to -4h
+-- the words from the lowest up
 abbrev pub upward : List Word
 upward =
     StringIndex ∷ OutputData ∷ PortSize ∷ Flags ∷ DescriptorLow ∷ DescriptorHigh
@@ -99,7 +97,7 @@ wordsBytes ws = flatMap (bytesOf 4) ws
 
 -- the 48 bytes
 unfoldable pub headerBytes : Saved → List ℕ
-headerBytes s = wordsBytes (map (holds s) upward)
+headerBytes s = wordsBytes (map (contents s) upward)
 
 -- management memory with the 48 bytes in it, the first at a place
 unfoldable pub headed : List ℕ → ℕ → Saved → List ℕ
@@ -107,9 +105,9 @@ headed g at s = sets g at (headerBytes s)
 
 -- a word of the header whose first byte is at a place
 abbrev pub wordIn : List ℕ → ℕ → Word → ℕ
-wordIn g at w = fieldAt g (at + (48 - below w)) 4
+wordIn g at w = fieldAt g (at + (48 - depth w)) 4
 
--- "RSM loads DR7, EFLAGS, CR0, CS, level, C and EIP (from next IP)."
+-- the registers that RSM loads; EIP is next IP
 unfoldable pub resumed : List ℕ → ℕ → Registers
 resumed g at = record {
   eip = wordIn g at NextIp;

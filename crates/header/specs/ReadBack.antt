@@ -1,13 +1,18 @@
--- Reading a header back (01, "Forty-eight bytes below the top"): what RSM loads from the 48 bytes that entry wrote.
-use Prim.Native.Nat.{ℕ, _+_, _≤_, _<_, _^_}
+-- What holds of the header's table (01, "Forty-eight bytes below the top"): where its words lie, and that RSM finds there what entry wrote.
+use Prim.Native.Nat.{ℕ, _+_, _*_, _≤_, _<_, _^_}
 use mathlib.Core.Path.{_≡_}
 use mathlib.Core.List.{List}
-use lib.ListN.{length}
+use lib.ListN.{length, getD}
 use Rattle.header.specs.declared.Registers.{Registers}
 use Rattle.header.specs.declared.Saved.{Saved}
-use Rattle.header.specs.Header.{Word, holds, headed, wordIn, resumed, withEip}
+use Rattle.header.specs.Header.{Word, depth, contents, upward, headed, wordIn, resumed, withEip}
+use Rattle.header.specs.Header.Word.{Dr7}
 
--- numbers of the widths that 01 gives the registers
+-- The words fill the 48 bytes below the end: the k-th upward begins 4 k above the first. (An addition: 48 less a depth above 48 would be 0.)
+abbrev pub TableFills : Type 0
+TableFills = (length upward ≡ 12) × ((k : ℕ) → k < 12 → depth (getD upward k Dr7) + 4 * k ≡ 48)
+
+-- numbers of the widths that 01 gives the registers, as those of every value of the code's own types are
 pub record RegistersFit (r : Registers) : Type 0 where
   pub eip : r .eip < 2 ^ 32
   pub eflags : r .eflags < 2 ^ 32
@@ -24,12 +29,12 @@ pub record SavedFits (s : Saved) : Type 0 where
   pub value : s .trap .value < 2 ^ 32
   pub index : s .trap .index < 2 ^ 32
 
--- every word of the table is found at its offset with what it was written to hold
+-- every word of the table is found at its place with what it was written to hold
 abbrev pub WordsReadBack : Type 0
 WordsReadBack =
-    (g : List ℕ) (at : ℕ) (s : Saved) → at + 48 ≤ length g → SavedFits s → (w : Word) → wordIn (headed g at s) at w ≡ holds s w
+    (g : List ℕ) (at : ℕ) (s : Saved) → at + 48 ≤ length g → SavedFits s → (w : Word) → wordIn (headed g at s) at w ≡ contents s w
 
--- "resume reads those bytes back into the registers they came from", with next IP as EIP
+-- so RSM loads the registers that entry saved, with next IP as EIP
 abbrev pub RegistersReadBack : Type 0
 RegistersReadBack =
     (g : List ℕ) (at : ℕ) (s : Saved) → at + 48 ≤ length g → SavedFits s

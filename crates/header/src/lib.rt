@@ -4,7 +4,8 @@ ghost use mathlib.Core.List.{map};
 ghost use Prim.Native.Nat.{_+_, _*_, _<_, _≤_};
 ghost use lib.ListN.{length};
 ghost use lib.Seq.{sets};
-ghost use Rattle.header.specs.Header.{levelNumber, levelOf, sizeBits, portSize, cut, trap, trapOf, bit, holds, upward, wordsBytes, headed, resumed};
+ghost use Rattle.header.specs.Header.{levelNumber, levelOf, sizeBits, portSize, cut, trap, trapOf, contents, upward, wordsBytes, headed, resumed};
+ghost use Rattle.header.specs.ReadBack.{TableFills, SavedFits, WordsReadBack, RegistersReadBack};
 ghost use Rattle.header.specs.Entry.{entryCs, entryRegisters};
 use memory::Segment;
 use steps::Interruption;
@@ -140,26 +141,20 @@ pub fn trap_of(i: Interruption) -> Trap
     }
 }
 
-fn flag(b: bool) -> u32
-    ensures { λ r. ⌜ (r ≡ bit b) × (r < 2) ⌝ }
-{
-    if b { 1 } else { 0 }
-}
-
 // The twelve words, upward.
 fn words_of(s: Saved) -> [u32; 12]
-    ensures { λ r. ⌜ r ≡ map (holds s) upward ⌝ }
+    ensures { λ r. ⌜ r ≡ map (contents s) upward ⌝ }
 {
     let r = s.registers;
     let t = s.trap;
     let cs = r.cs;
     let l = r.level;
     let level = level_number(l);
-    let flags = flag(r.writable)
-        + 2 * flag(t.output)
-        + 4 * flag(t.rep)
-        + 8 * flag(s.smint)
-        + 16 * flag(s.halted);
+    let flags = fields::flag(r.writable)
+        + 2 * fields::flag(t.output)
+        + 4 * fields::flag(t.rep)
+        + 8 * fields::flag(s.smint)
+        + 16 * fields::flag(s.halted);
     [
         t.index,
         t.value,
@@ -252,3 +247,14 @@ pub fn entry_registers(r: Registers, base: u32) -> Registers
         writable: true,
     }
 }
+
+// No code of the model: these hold the gate to the numbers' widths, and to what the table is for.
+fn widths(s: Saved)
+    ensures { λ r. ⌜ SavedFits s ⌝ }
+{}
+
+fn laws()
+    ensures fills { λ r. ⌜ TableFills ⌝ }
+    ensures words { λ r. ⌜ WordsReadBack ⌝ }
+    ensures registers { λ r. ⌜ RegistersReadBack ⌝ }
+{}

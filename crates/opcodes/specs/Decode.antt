@@ -14,7 +14,7 @@ modField modrm = modrm / 64
 abbrev pub middleField : ℕ → ℕ
 middleField modrm = modrm / 8 % 8
 
--- "SVDC and RSDC take the middle field as ES 0, CS 1, SS 2, DS 3, FS 4, GS 5, where 6 and 7 are invalid, and so is CS for RSDC"
+-- the data segment that the middle field names to SVDC and RSDC, which take no field of 6 or 7; RSDC takes no CS either
 unfoldable pub dataSegment : ℕ → SegmentName
 dataSegment field =
     cond (eqb field 0) Es (cond (eqb field 1) Cs (cond (eqb field 2) Ss (cond (eqb field 3) Ds (cond (eqb field 4) Fs Gs))))
@@ -25,11 +25,11 @@ svdc field = cond (ltb field 6) (Save (dataSegment field)) Undefined
 abbrev pub rsdc : ℕ → Operation
 rsdc field = cond (eqb field 1) Undefined (cond (ltb field 6) (Restore (dataSegment field)) Undefined)
 
--- "the other four need it 0"
+-- an operation whose middle field has to be 0
 abbrev pub plain : ℕ → Operation → Operation
 plain field o = cond (eqb field 0) o Undefined
 
--- "78h SVDC, 79h RSDC, 7Ah SVLDT, 7Bh RSLDT, 7Ch SVTS, 7Dh RSTS"
+-- SVDC, RSDC, SVLDT, RSLDT, SVTS, RSTS
 unfoldable pub grouped : ℕ → ℕ → Operation
 grouped opcode field =
     cond (eqb opcode 0x78) (svdc field)
@@ -39,14 +39,14 @@ grouped opcode field =
     (cond (eqb opcode 0x7c) (plain field (Save Tr))
     (cond (eqb opcode 0x7d) (plain field (Restore Tr)) Undefined)))))
 
--- "7Eh SMINT, AAh RSM"; "The 78h to 7Dh group needs ModRM mod not 3"; "SMINT and RSM ignore ModRM"
-unfoldable pub decoded : ℕ → ℕ → Operation
-decoded opcode modrm =
+-- SMINT and RSM go by the opcode alone; the group of six needs an operand in memory, so that mod is not 3
+unfoldable pub operationOf : ℕ → ℕ → Operation
+operationOf opcode modrm =
     cond (eqb opcode 0x7e) Smint
     (cond (eqb opcode 0xaa) Rsm
     (cond (eqb (modField modrm) 3) Undefined (grouped opcode (middleField modrm))))
 
--- "RSM also needs inside; SMINT also needs outside"
+-- whether an operation may run inside the mode, or outside it
 abbrev pub allowed : Bool → Operation → Bool
 allowed inside (Save name) = true
 allowed inside (Restore name) = true

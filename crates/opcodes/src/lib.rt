@@ -1,5 +1,5 @@
 ghost use mathlib.Core.Path.{_≡_};
-ghost use Rattle.opcodes.specs.Decode.{dataSegment, svdc, rsdc, plain, grouped, decoded, allowed};
+ghost use Rattle.opcodes.specs.Decode.{dataSegment, svdc, rsdc, plain, grouped, operationOf, allowed};
 
 // A segment register by its name.
 pub enum SegmentName {
@@ -82,7 +82,7 @@ fn grouped_of(opcode: u8, field: u8) -> Operation
 
 // The operation that the byte after 0Fh and ModRM ask for.
 pub fn decode(opcode: u8, modrm: u8) -> Operation
-    ensures { λ r. ⌜ r ≡ decoded opcode modrm ⌝ }
+    ensures { λ r. ⌜ r ≡ operationOf opcode modrm ⌝ }
 {
     if opcode == 0x7E {
         return Operation::Smint;
