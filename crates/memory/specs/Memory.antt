@@ -1,7 +1,7 @@
--- 01, "Routing, byte by byte": the two memories, which of them answers a byte, and what is read and stored there.
+-- 01, "What the machine holds" and "Routing": the two memories, which byte of which of them an address names, and what is read and stored.
 -- A window is the region whose bytes management memory answers; one of code 0 sends every byte to main memory.
 use Prim.Native.Nat.{ℕ, zero, suc, _+_, _-_}
-use mathlib.Core.Bool.{Bool, true, false, cond, not, _&&_, _||_}
+use mathlib.Core.Bool.{Bool, true, cond, not, _&&_, _||_}
 use mathlib.Core.List.{List, [], _∷_}
 use lib.ListN.{length, getD, set}
 use lib.Dec.{leb, ltb}
@@ -11,8 +11,6 @@ use Rattle.memory.specs.declared.Segment.{Segment}
 use Rattle.fields.specs.Fields.{numberBy, bytesOf}
 use Rattle.steps.specs.declared.Answer.{Answer}
 use Rattle.steps.specs.declared.Answer.the-variants.{Done, Value, Absent}
-use Rattle.memory.specs.declared.Operand.{Operand}
-use Rattle.memory.specs.declared.Operand.the-variants.{Whole, Cut}
 
 pub record Memories : Type 0 where
   pub main : List ℕ
@@ -21,27 +19,39 @@ pub record Memories : Type 0 where
 abbrev pub memories : List ℕ → List ℕ → Memories
 memories a b = record { main = a; management = b }
 
--- "Main memory answers addresses from 0 to its length less 1"; "Management memory .. its byte k is the region's byte k". Past a memory's
--- end a byte reads 0, and a store there is dropped.
+-- a byte of one of the two, by its number there
+pub data Cell : Type 0 where
+  InMain InManagement : ℕ → Cell
+
+-- The cell that an address names. Management memory's byte k is the region's byte k; main memory answers addresses as they are.
+unfoldable pub cellOf : Region → ℕ → Cell
+cellOf w a = cond (within w a) (Cell.InManagement (a - w .base)) (Cell.InMain a)
+
+-- Past a memory's end a byte reads 0, and a store is dropped.
+abbrev pub byteIn : Memories → Cell → ℕ
+byteIn x (Cell.InMain k) = getD (x .main) k 0
+byteIn x (Cell.InManagement k) = getD (x .management) k 0
+
+abbrev pub storeIn : Memories → Cell → ℕ → Memories
+storeIn x (Cell.InMain k) b = memories (set (x .main) k b) (x .management)
+storeIn x (Cell.InManagement k) b = memories (x .main) (set (x .management) k b)
+
 unfoldable pub byteAt : Region → Memories → ℕ → ℕ
-byteAt w x a = cond (within w a) (getD (x .management) (a - w .base) 0) (getD (x .main) a 0)
+byteAt w x a = byteIn x (cellOf w a)
 
 unfoldable pub storeByte : Region → Memories → ℕ → ℕ → Memories
-storeByte w x a b =
-    cond (within w a)
-    (memories (x .main) (set (x .management) (a - w .base) b))
-    (memories (set (x .main) a b) (x .management))
+storeByte w x a b = storeIn x (cellOf w a) b
 
--- "a data or operand byte routed to main beyond its end, or above FFFFFFFFh": end is main memory's length
+-- Answer 5, of one byte: it is above FFFFFFFFh, or main memory's and beyond its end, its length.
 unfoldable pub absent : Region → ℕ → ℕ → Bool
 absent w end a = ltb 0xffffffff a || (not (within w a) && leb end a)
 
--- none of the count bytes from a on is absent
+-- none of count bytes from a on is absent
 unfoldable pub allThere : Region → ℕ → ℕ → ℕ → Bool
 allThere w end a zero = true
 allThere w end a (suc count) = not (absent w end a) && allThere w end (a + 1) count
 
--- the number in count bytes from a on, "little-endian"
+-- the little-endian number in count bytes from a on
 abbrev pub load : Region → Memories → ℕ → ℕ → ℕ
 load w x a count = numberBy (byteAt w x) a count
 
@@ -50,11 +60,11 @@ unfoldable pub storeBytes : Region → Memories → ℕ → List ℕ → Memorie
 storeBytes w x a [] = x
 storeBytes w x a (b ∷ bs) = storeBytes w (storeByte w x a b) (a + 1) bs
 
--- with the count low bytes of v, "little-endian, low bytes of the value"
+-- with the count low bytes of v
 abbrev pub store : Region → Memories → ℕ → ℕ → ℕ → Memories
 store w x a count v = storeBytes w x a (bytesOf count v)
 
--- "The operand is 10 bytes: descriptor, then selector."
+-- 01, "Opcode": an operand's ten bytes, a descriptor's eight and then a selector's two
 abbrev pub operandLength : ℕ
 operandLength = 10
 
@@ -64,7 +74,15 @@ segmentAt w x a = record { selector = load w x (a + 8) 2; descriptor = load w x 
 unfoldable pub storeSegment : Region → Memories → ℕ → Segment → Memories
 storeSegment w x a s = store w (store w x a 8 (s .descriptor)) (a + 8) 2 (s .selector)
 
--- what an access leaves: its answer and the memories, or for an operand that is written whether it was, and the memories
+-- 01, "Data read or write": an access is made where all its bytes are there, and else nothing is read or written
+
+abbrev pub there : Region → Memories → ℕ → ℕ → Bool
+there w x a count = allThere w (length (x .main)) a count
+
+unfoldable pub reads : Region → Memories → ℕ → ℕ → Answer
+reads w x a count = cond (there w x a count) (Value (load w x a count)) Absent
+
+-- what a write leaves: its answer, and the memories
 pub record Reached : Type 0 where
   pub answer : Answer
   pub memory : Memories
@@ -72,25 +90,5 @@ pub record Reached : Type 0 where
 abbrev pub reaches : Answer → Memories → Reached
 reaches a x = record { answer = a; memory = x }
 
-pub record Attempt : Type 0 where
-  pub made : Bool
-  pub memory : Memories
-
-abbrev pub attempt : Bool → Memories → Attempt
-attempt b x = record { made = b; memory = x }
-
--- all of count bytes from a on are there, and all is read or written; or a byte is absent, and nothing is
-abbrev pub allOrNothing : {A : Type 0} → Region → Memories → ℕ → ℕ → A → A → A
-allOrNothing w x a count all nothing = cond (allThere w (length (x .main)) a count) all nothing
-
-unfoldable pub reads : Region → Memories → ℕ → ℕ → Answer
-reads w x a count = allOrNothing w x a count (Value (load w x a count)) Absent
-
 unfoldable pub writes : Region → Memories → ℕ → ℕ → ℕ → Reached
-writes w x a count v = allOrNothing w x a count (reaches Done (store w x a count v)) (reaches Absent x)
-
-unfoldable pub readsSegment : Region → Memories → ℕ → Operand
-readsSegment w x a = allOrNothing w x a operandLength (Whole (segmentAt w x a)) Cut
-
-unfoldable pub writesSegment : Region → Memories → ℕ → Segment → Attempt
-writesSegment w x a s = allOrNothing w x a operandLength (attempt true (storeSegment w x a s)) (attempt false x)
+writes w x a count v = cond (there w x a count) (reaches Done (store w x a count v)) (reaches Absent x)

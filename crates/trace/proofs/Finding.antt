@@ -8,7 +8,7 @@ use lib.ListN.{length, take, drop}
 use Rattle.fields.specs.Fields.{fieldAt}
 use Rattle.trace.specs.declared.Found.{Found}
 use Rattle.trace.specs.declared.Found.the-variants.{End, Torn, Bad}
-use Rattle.trace.specs.Trace.{decoded, foundAt}
+use Rattle.trace.specs.Trace.{recordOf, foundAt}
 
 module _ (l : List ℕ) (at : ℕ) where
   pub found-end : length l ≤ at → End ≡ foundAt l at
@@ -31,7 +31,7 @@ module _ (l : List ℕ) (at : ℕ) where
       found-small k = simp (lt-leb (length l) at (omega arith), le-ltb (length l) (at + 2) (omega arith), ← e, le-ltb _ _ h, lt-ltb _ _ k)
 
       pub found-whole : 2 ≤ n → (kind : ℕ) → kind ≡ fieldAt l (at + 2) 2 → (r : Found)
-          → r ≡ decoded kind (take (at + 2 + n - (at + 4)) (drop (at + 4) l)) (at + 2 + n) → r ≡ foundAt l at
+          → r ≡ recordOf kind (take (at + 2 + n - (at + 4)) (drop (at + 4) l)) (at + 2 + n) → r ≡ foundAt l at
       unfolding foundAt
       found-whole k kind f r g =
           let s : at + 2 + n - (at + 4) ≡ n - 2 = omega arith in

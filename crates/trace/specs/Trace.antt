@@ -1,5 +1,6 @@
 -- 01, "Trace player": the records of a trace, and what stands at a place of it.
 use Prim.Native.Nat.{ℕ, _+_, _-_}
+use mathlib.Core.Path.{_≡_}
 use mathlib.Core.Bool.{Bool, cond, _||_}
 use mathlib.Core.List.{List, [], _∷_}
 use lib.ListN.{length, getD, take, drop}
@@ -10,10 +11,11 @@ use Rattle.steps.specs.declared.Interruption.{Interruption}
 use Rattle.steps.specs.declared.Interruption.the-variants.{None, Input, Output, StringInput, StringOutput, RepInput, RepOutput}
 use Rattle.steps.specs.declared.Step.{Step}
 use Rattle.steps.specs.declared.Step.the-variants.{Reset, Registers, Read, Write, PortRead, PortWrite, Opcode, Boundary, UnnamedBoundary, Halt, Wake}
+use Rattle.steps.specs.Steps.{kindOf}
 use Rattle.trace.specs.declared.Found.{Found}
 use Rattle.trace.specs.declared.Found.the-variants.{Record, End, Torn, Bad}
 
--- "A trace record is a little-endian 16-bit length of what follows, a two-byte kind and a body."
+-- A record: its length in two bytes, which counts what follows, its kind in two bytes, and its body.
 abbrev pub lengthAt : List ℕ → ℕ → ℕ
 lengthAt l at = fieldAt l at 2
 
@@ -28,27 +30,26 @@ abbrev pub pastAt : List ℕ → ℕ → ℕ
 pastAt l at = at + 2 + lengthAt l at
 
 -- The steps of the kinds, from their bodies. A field is given by its first byte's place in the body and its number of bytes.
--- "2 registers (EIP, EFLAGS, CR0, DR7, CS selector, descriptor, level, writable: 28 bytes)"
+-- kind 2
 unfoldable pub registersOf : List ℕ → Step
 registersOf b =
     Registers (fieldAt b 0 4) (fieldAt b 4 4) (fieldAt b 8 4) (fieldAt b 12 4)
     (fieldAt b 16 2) (fieldAt b 18 8) (fieldAt b 26 1) (fieldAt b 27 1)
 
--- "none, input, output, string input, string output, REP input, REP output; outputs carry port, size 1, 2 or 4, and data; the four
--- string forms, REP or not, carry ESI or EDI"
+-- the seven interruptions in the order of their codes, from an output's fields and from ESI or EDI
 abbrev pub interruptions : Transfer → ℕ → List Interruption
 interruptions t i = None ∷ Input ∷ Output t ∷ StringInput i ∷ StringOutput t i ∷ RepInput i ∷ RepOutput t i ∷ []
 
--- "interruption 1 (0 to 6 as ordered above)"; boundaryOf asks for no other code
+-- the one of a code up to 6; boundaryOf asks for no other
 unfoldable pub interruptionOf : ℕ → Transfer → ℕ → Interruption
 interruptionOf code t i = getD (interruptions t i) code None
 
--- "port 2, size 1, data 4, index 4"
+-- an output's fields in the body of a boundary
 abbrev pub transferOf : List ℕ → Transfer
 transferOf b = record { port = fieldAt b 6 2; size = fieldAt b 8 1; value = fieldAt b 9 4 }
 
--- "8 boundary (SMI 1, current 4, interruption 1 .., port 2, size 1, data 4, index 4)"; "Unused boundary fields are ignored. An
--- interruption code above 6 is answer 2": that boundary is a step of its own, which is malformed.
+-- Kind 8. Fields that its interruption doesn't use are ignored. A code above 6 names none: that boundary is a step of its own, which is
+-- malformed.
 unfoldable pub boundaryOf : List ℕ → Step
 boundaryOf b =
     cond (ltb 6 (fieldAt b 5 1)) UnnamedBoundary
@@ -63,8 +64,7 @@ pub record Kind : Type 0 where
 abbrev pub kind : ℕ → ℕ → (List ℕ → Step) → Kind
 kind number size step = record { number = number; size = size; step = step }
 
--- "Kinds: 1 reset; 2 registers (.. 28 bytes); 3 data read (width 1 byte, address 4); 4 data write (the same, value 4); 5 port read
--- (port 2); 6 port write (port 2, value 1); 7 opcode (opcode 1, ModRM 1, address 4, next 4); 8 boundary (..); 9 halt; 10 wake."
+-- the ten kinds
 abbrev pub kinds : List Kind
 kinds =
     kind 1 0 (λ b. Reset)
@@ -79,29 +79,33 @@ kinds =
     ∷ kind 10 0 (λ b. Wake)
     ∷ []
 
--- "bad (.. unknown kind, wrong length)", else the record
-unfoldable pub decodedBy : List Kind → ℕ → List ℕ → ℕ → Found
-decodedBy [] number b next = Bad
-decodedBy (k ∷ ks) number b next =
+-- the record of a kind and a body; it is bad where no kind has that number, or its body another length
+unfoldable pub recordBy : List Kind → ℕ → List ℕ → ℕ → Found
+recordBy [] number b next = Bad
+recordBy (k ∷ ks) number b next =
     cond (eqb number (k .number))
     (cond (eqb (length b) (k .size)) (Record (k .step b) next) Bad)
-    (decodedBy ks number b next)
+    (recordBy ks number b next)
 
-unfoldable pub decoded : ℕ → List ℕ → ℕ → Found
-decoded number b next = decodedBy kinds number b next
+unfoldable pub recordOf : ℕ → List ℕ → ℕ → Found
+recordOf number b next = recordBy kinds number b next
 
--- "end (no bytes left)"
+-- no bytes are left
 abbrev pub ended : List ℕ → ℕ → Bool
 ended l at = leb (length l) at
 
--- "torn (fewer than 2 bytes, or the length overshoots)"
+-- too few bytes are left for the length, or for what it counts
 abbrev pub torn : List ℕ → ℕ → Bool
 torn l at = ltb (length l) (at + 2) || ltb (length l) (pastAt l at)
 
--- "bad (length below 2, ..)"
+-- the length has no room for the kind
 abbrev pub short : List ℕ → ℕ → Bool
 short l at = ltb (lengthAt l at) 2
 
--- what stands at a place: "tested so: end .., torn .., bad .."
+-- what stands at a place, by the first of these tests that holds
 unfoldable pub foundAt : List ℕ → ℕ → Found
-foundAt l at = cond (ended l at) End (cond (torn l at) Torn (cond (short l at) Bad (decoded (kindAt l at) (bodyAt l at) (pastAt l at))))
+foundAt l at = cond (ended l at) End (cond (torn l at) Torn (cond (short l at) Bad (recordOf (kindAt l at) (bodyAt l at) (pastAt l at))))
+
+-- the kinds are those that the log counts a step under
+abbrev pub KindsAgree : Type 0
+KindsAgree = (number next past : ℕ) (b : List ℕ) (s : Step) → recordOf number b next ≡ Record s past → kindOf s ≡ number

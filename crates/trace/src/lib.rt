@@ -3,7 +3,7 @@ use steps::Interruption;
 use steps::Step;
 use steps::Transfer;
 ghost use mathlib.Core.Path.{_≡_};
-ghost use Rattle.trace.specs.Trace.{interruptionOf, boundaryOf, registersOf, decoded, foundAt};
+ghost use Rattle.trace.specs.Trace.{interruptionOf, boundaryOf, registersOf, recordOf, foundAt, KindsAgree};
 
 // What stands at a place. A record is its step and the place past it.
 pub enum Found {
@@ -65,7 +65,7 @@ fn registers(body: &[u8]) -> Step
 
 // The record of a kind and a body; next is the place past it.
 fn decode(kind: u16, body: &[u8], next: usize) -> Found
-    ensures { λ r. ⌜ r ≡ decoded kind (now (body .entry)) next ⌝ }
+    ensures { λ r. ⌜ r ≡ recordOf kind (now (body .entry)) next ⌝ }
 {
     match kind {
         1 => if body.len() == 0 {
@@ -211,9 +211,24 @@ pub fn peek<'a>(r: Reader<'a>) -> Found
     read_record(r.trace, r.place)
 }
 
+// The same reader at another place.
+pub fn moved<'a>(r: Reader<'a>, place: usize) -> Reader<'a>
+    ensures { λ q. ⌜ (q .trace ≡ r .entry .trace) × (q .place ≡ place) ⌝ }
+{
+    Reader {
+        trace: r.trace,
+        place,
+    }
+}
+
 // The record at a place, by way of a reader, with plain parameters.
 pub fn record_at(trace: &[u8], place: usize) -> Found
     ensures { λ r. ⌜ r ≡ foundAt (now (trace .entry)) place ⌝ }
 {
     peek(at_place(trace, place))
 }
+
+// No code of the model: it holds the gate to the kinds' numbers.
+fn laws()
+    ensures { λ r. ⌜ KindsAgree ⌝ }
+{}
