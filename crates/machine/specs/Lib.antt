@@ -2,3 +2,4 @@ pub mod Machines
 pub mod Outcomes
 pub mod Service
 pub mod Steps
+pub mod Widths

@@ -63,7 +63,7 @@ withSegment m Tr x = let s = m .segments in withSegments m (segments (s .ds) (s 
 abbrev pub segment : ℕ → ℕ → Segment
 segment selector descriptor = record { selector = selector; descriptor = descriptor }
 
--- "EIP FFF0h, EFLAGS 2, CR0 60000010h, DR7 400h, level 0, code writable; CS F000h with descriptor FF FF 00 00 FF 93 00 FF"
+-- the registers after a reset
 abbrev pub resetRegisters : Registers
 resetRegisters = record {
   eip = 0xfff0;
@@ -75,13 +75,13 @@ resetRegisters = record {
   writable = true;
 }
 
--- "other selectors 0, with descriptors FF FF 00 00 00 93 00 00, but LDTR and TR all zero"
+-- the other segments: all alike, but LDTR and TR, which are all zero
 abbrev pub resetSegments : Segments
 resetSegments =
     let flat = segment 0 (number (0xff ∷ 0xff ∷ 0x00 ∷ 0x00 ∷ 0x00 ∷ 0x93 ∷ 0x00 ∷ 0x00 ∷ [])) in
     segments flat flat flat flat flat (segment 0 0) (segment 0 0)
 
--- "Configuration, flags and index become zero and disarmed"
+-- the whole machine: configuration, flags and index are zero, and nothing is armed
 unfoldable pub resetMachine : Machine
 unfolding numberBy
 resetMachine =

@@ -1,26 +1,25 @@
--- 01, "Boundary", "Opcode" and "Forty-eight bytes below the top": entry to management mode and the way back.
+-- 01, "Boundary" and "Forty-eight bytes below the top": entry to management mode, and the way back by RSM.
 use Prim.Native.Nat.{ℕ}
-use mathlib.Core.Bool.{Bool, true, false, cond, _&&_, _||_}
+use mathlib.Core.Bool.{Bool, true, false, cond, _||_}
 use mathlib.Core.List.{List}
-use lib.Dec.{eqb}
-use Rattle.region.specs.Region.{usable}
+use Rattle.memory.specs.Memory.{Memories, memories}
 use Rattle.steps.specs.declared.Interruption.{Interruption}
 use Rattle.steps.specs.declared.Interruption.the-variants.{None}
 use Rattle.steps.specs.declared.Answer.the-variants.{Nothing, Ignored, Latched, Entered, Resumed}
-use Rattle.config.specs.Settings.{useSmi, smac, regionIn, enabled, headerPlace}
+use Rattle.config.specs.Settings.{regionIn, enabled, headerPlace}
 use Rattle.config.specs.declared.Settings.{Settings}
 use Rattle.header.specs.declared.Saved.{Saved}
-use Rattle.header.specs.Header.{levelNumber, trapOf, headed, resumed}
+use Rattle.header.specs.Header.{trapOf, headed, resumed}
 use Rattle.header.specs.Entry.{entryRegisters}
 use Rattle.machine.specs.declared.Machine.{Machine}
 use Rattle.machine.specs.declared.Stepped.{Stepped}
 use Rattle.machine.specs.Machines.{machine, withLatched}
-use Rattle.machine.specs.Outcomes.{gives, Managed, manages}
+use Rattle.machine.specs.Outcomes.{Outcome, gives, ends, refused}
 
 abbrev pub settingsOf : Machine → Settings
 settingsOf m = m .config .settings
 
--- "Next IP is EIP at a boundary"; "Current IP is the boundary's current address; ... EIP too if halted"
+-- What entry at a boundary records. Next IP is EIP; current IP is the boundary's current address, but EIP on a halted machine.
 abbrev pub savedAtBoundary : Machine → ℕ → Interruption → Saved
 savedAtBoundary m current i = record {
   registers = m .registers;
@@ -31,7 +30,7 @@ savedAtBoundary m current i = record {
   halted = m .halted;
 }
 
--- "SMINT's next address otherwise"; "EIP for SMINT"
+-- What entry by SMINT records. Next IP is the step's next address; current IP is EIP.
 abbrev pub savedBySmint : Machine → ℕ → Saved
 savedBySmint m next = record {
   registers = m .registers;
@@ -42,40 +41,35 @@ savedBySmint m next = record {
   halted = m .halted;
 }
 
--- "Entry then sets ... not halted, inside. ... Nothing else moves."
+-- Entry loads its registers, wakes the machine and takes it inside. What becomes of the latch goes by how it enters; nothing else moves.
 unfoldable pub enteredMachine : Machine → Bool → Machine
 enteredMachine m latched =
     machine (entryRegisters (m .registers) (regionIn (settingsOf m) .base)) (m .segments) false true latched (m .config)
 
--- "Header traffic always uses management memory."
-unfoldable pub entry : Machine → List ℕ → Saved → Bool → Managed
-entry m g s latched = manages (gives (enteredMachine m latched) Entered) (headed g (headerPlace (settingsOf m)) s)
+-- The header goes to management memory, whatever SMAC and MMAC say.
+unfoldable pub entry : Machine → Memories → Saved → Bool → Outcome
+entry m x s latched =
+    ends (gives (enteredMachine m latched) Entered) (memories (x .main) (headed (x .management) (headerPlace (settingsOf m)) s))
 
--- "Enabled with SMI asserted or latched: entry, and the latch clears"
-abbrev pub entryAtBoundary : Machine → List ℕ → ℕ → Interruption → Managed
-entryAtBoundary m g current i = entry m g (savedAtBoundary m current i) false
+-- entry at a boundary clears the latch
+abbrev pub entryAtBoundary : Machine → Memories → ℕ → Interruption → Outcome
+entryAtBoundary m x current i = entry m x (savedAtBoundary m current i) false
 
--- "entry by SMINT keeps it"
-abbrev pub entryBySmint : Machine → List ℕ → ℕ → Managed
-entryBySmint m g next = entry m g (savedBySmint m next) (m .latched)
+-- entry by SMINT keeps it
+abbrev pub entryBySmint : Machine → Memories → ℕ → Outcome
+entryBySmint m x next = entry m x (savedBySmint m next) (m .latched)
 
--- "Inside the mode an asserted SMI sets the latch and answers latched, whether it was set before or not; an SMI not asserted answers
--- nothing. Outside, ... Enabled with SMI asserted or latched: entry ... Not enabled and asserted: ignored, latch kept. Else nothing."
-unfoldable pub boundary : Machine → List ℕ → Bool → ℕ → Interruption → Managed
-boundary m g asserted current i =
+-- Inside the mode an asserted SMI is latched. Outside, where SMIs are enabled, one that is asserted or latched enters; where they are not,
+-- one that is asserted is ignored, and the latch is kept. Otherwise a boundary does nothing.
+unfoldable pub boundaryStep : Machine → Memories → Bool → ℕ → Interruption → Outcome
+boundaryStep m x asserted current i =
     cond (m .inside)
-    (cond asserted (manages (gives (withLatched m true) Latched) g) (manages (gives m Nothing) g))
+    (cond asserted (ends (gives (withLatched m true) Latched) x) (ends (gives m Nothing) x))
     (cond (enabled (settingsOf m))
-    (cond (asserted || m .latched) (entryAtBoundary m g current i) (manages (gives m Nothing) g))
-    (manages (gives m (cond asserted Ignored Nothing)) g))
+    (cond (asserted || m .latched) (entryAtBoundary m x current i) (ends (gives m Nothing) x))
+    (ends (gives m (cond asserted Ignored Nothing)) x))
 
--- "RSM loads DR7, EFLAGS, CR0, CS, level, C and EIP (from next IP) and leaves the mode, not halted."
+-- RSM loads the registers from the header, and leaves the mode with the machine awake.
 unfoldable pub resume : Machine → List ℕ → Stepped
 resume m g =
     gives (machine (resumed g (headerPlace (settingsOf m))) (m .segments) false false (m .latched) (m .config)) Resumed
-
--- "Valid only with USE_SMI 1, a usable region, level 0, and inside the mode or SMAC 1."
-unfoldable pub permitted : Machine → Bool
-permitted m =
-    useSmi (settingsOf m) && usable (regionIn (settingsOf m)) && eqb (levelNumber (m .registers .level)) 0
-    && (m .inside || smac (settingsOf m))

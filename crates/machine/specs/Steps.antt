@@ -1,47 +1,43 @@
--- 01, "The steps" and "Numbers the bench sees": one step of a machine over its two memories, and a list of them.
+-- 01, "The steps" and "Numbers the bench sees": what each step does, and one step of a machine over its two memories.
 use Prim.Native.Nat.{ℕ}
-use mathlib.Core.Bool.{Bool, true, false, cond, _&&_}
-use mathlib.Core.List.{List, [], _∷_}
+use mathlib.Core.Bool.{Bool, true, false, cond, _&&_, _||_}
 use lib.Dec.{eqb}
 use Rattle.region.specs.declared.Region.{Region}
-use Rattle.memory.specs.declared.Operand.{Operand}
-use Rattle.memory.specs.declared.Operand.the-variants.{Whole, Cut}
-use Rattle.memory.specs.Memory.{Memories, Reached, reads, writes, readsSegment, writesSegment}
-use Rattle.access.specs.Access.{refusing}
-use Rattle.steps.specs.declared.Answer.{Answer}
+use Rattle.region.specs.Region.{usable}
+use Rattle.memory.specs.Memory.{Memories, there, operandLength, segmentAt, storeSegment, reads, writes}
+use Rattle.refusals.specs.declared.Verdict.{Verdict}
+use Rattle.refusals.specs.declared.Verdict.the-variants.{Refused, Allowed}
+use Rattle.refusals.specs.Refusals.{firstRefusal}
 use Rattle.steps.specs.declared.Answer.the-variants.{Done, Malformed, Invalid, Absent}
 use Rattle.steps.specs.declared.Step.{Step}
 use Rattle.steps.specs.declared.Step.the-variants.{Reset, Registers, Read, Write, PortRead, PortWrite, Opcode, Boundary, UnnamedBoundary, Halt, Wake}
-use Rattle.config.specs.Settings.{windowOf}
+use Rattle.config.specs.Settings.{useSmi, smac, regionIn, windowOf}
 use Rattle.config.specs.Ports.{portRead, portWrite}
 use Rattle.config.specs.declared.Accessed.{Accessed}
-use Rattle.header.specs.Header.{levelOf, withEip}
+use Rattle.header.specs.Header.{levelNumber, levelOf, withEip}
 use Rattle.opcodes.specs.declared.SegmentName.{SegmentName}
 use Rattle.opcodes.specs.declared.Operation.{Operation}
 use Rattle.opcodes.specs.declared.Operation.the-variants.{Save, Restore, Smint, Rsm, Undefined}
-use Rattle.opcodes.specs.Decode.{decoded, allowed}
+use Rattle.opcodes.specs.Decode.{operationOf, allowed}
 use Rattle.machine.specs.declared.Machine.{Machine}
 use Rattle.machine.specs.declared.Stepped.{Stepped}
 use Rattle.machine.specs.Machines.{withRegisters, withHalted, withConfig, segmentIn, withSegment, segment, resetMachine}
-use Rattle.machine.specs.Outcomes.{Outcome, gives, ends, over}
-use Rattle.machine.specs.Service.{settingsOf, entryBySmint, boundary, resume, permitted}
+use Rattle.machine.specs.Outcomes.{Outcome, gives, ends, refused}
+use Rattle.machine.specs.Service.{settingsOf, entryBySmint, boundaryStep, resume}
 
--- 4: "invalid opcode" is one that is not valid
-unfoldable pub valid : Machine → Operation → Bool
-valid m o = permitted m && allowed (m .inside) o
-
--- "Routing": the region whose bytes management memory answers
+-- the region whose bytes management memory answers
 abbrev pub window : Machine → Region
 window m = windowOf (settingsOf m) (m .inside)
 
--- a refusal: "machine and memories stay"
-abbrev pub refused : Machine → Memories → Answer → Outcome
-refused m x a = ends (gives m a) x
+-- ---- reset, registers
 
--- "Registers. Sets EIP, EFLAGS, CR0, DR7, CS, level and writable from the step."
-abbrev pub setRegisters : Machine → ℕ → ℕ → ℕ → ℕ → ℕ → ℕ → ℕ → ℕ → Machine
-setRegisters m eip eflags cr0 dr7 selector descriptor level writable =
-    withRegisters m (record {
+abbrev pub resetStep : Stepped
+resetStep = gives resetMachine Done
+
+abbrev pub registersStep : Machine → ℕ → ℕ → ℕ → ℕ → ℕ → ℕ → ℕ → ℕ → Stepped
+registersStep m eip eflags cr0 dr7 selector descriptor level writable =
+    gives
+    (withRegisters m (record {
       eip = eip;
       eflags = eflags;
       cr0 = cr0;
@@ -49,72 +45,97 @@ setRegisters m eip eflags cr0 dr7 selector descriptor level writable =
       cs = segment selector descriptor;
       level = levelOf level;
       writable = eqb writable 1;
-    })
+    }))
+    Done
 
--- an access that leaves the machine as it is
-abbrev pub stays : Machine → Reached → Outcome
-stays m r = ends (gives m (r .answer)) (r .memory)
+-- ---- data read, data write: the machine stays
 
--- "Port read or write, one byte."
-abbrev pub ported : Machine → Accessed → Stepped
-ported m p = gives (withConfig m (p .config)) (p .answer)
+abbrev pub readStep : Machine → Memories → ℕ → ℕ → Stepped
+readStep m x width a = gives m (reads (window m) x a width)
 
--- "On success of one of these six EIP becomes the next address."
+abbrev pub writeStep : Machine → Memories → ℕ → ℕ → ℕ → Outcome
+writeStep m x width a v = let r = writes (window m) x a width v in ends (gives m (r .answer)) (r .memory)
+
+-- ---- port read, port write: only the configuration moves
+
+abbrev pub portStep : Machine → Accessed → Stepped
+portStep m p = gives (withConfig m (p .config)) (p .answer)
+
+abbrev pub portReadStep : Machine → ℕ → Stepped
+portReadStep m port = portStep m (portRead (m .config) port)
+
+abbrev pub portWriteStep : Machine → ℕ → ℕ → Stepped
+portWriteStep m port v = portStep m (portWrite (m .config) port v (m .inside))
+
+-- ---- opcode
+
+-- the opcodes work with USE_SMI, a usable region and level 0, inside the mode or under SMAC
+unfoldable pub permitted : Machine → Bool
+permitted m =
+    useSmi (settingsOf m) && usable (regionIn (settingsOf m)) && eqb (levelNumber (m .registers .level)) 0
+    && (m .inside || smac (settingsOf m))
+
+unfoldable pub valid : Machine → Operation → Bool
+valid m o = permitted m && allowed (m .inside) o
+
+-- saving and restoring end with EIP at the next address
 abbrev pub advanced : Machine → ℕ → Machine
 advanced m next = withRegisters m (withEip (m .registers) next)
 
--- a valid operation. "The operand is 10 bytes"; SMINT and RSM have none.
+-- SVDC, SVLDT and SVTS, where the ten bytes of the operand are all there
 unfoldable pub saved : Machine → Memories → SegmentName → ℕ → ℕ → Outcome
 saved m x name a next =
-    let t = writesSegment (window m) x a (segmentIn m name) in
-    ends (cond (t .made) (gives (advanced m next) Done) (gives m Absent)) (t .memory)
+    cond (there (window m) x a operandLength)
+    (ends (gives (advanced m next) Done) (storeSegment (window m) x a (segmentIn m name)))
+    (refused m x Absent)
 
-abbrev pub restoredBy : Machine → SegmentName → ℕ → Operand → Stepped
-restoredBy m name next (Whole s) = gives (advanced (withSegment m name s) next) Done
-restoredBy m name next Cut = gives m Absent
-
+-- RSDC, RSLDT and RSTS
 unfoldable pub restored : Machine → Memories → SegmentName → ℕ → ℕ → Stepped
-restored m x name a next = restoredBy m name next (readsSegment (window m) x a)
+restored m x name a next =
+    cond (there (window m) x a operandLength)
+    (gives (advanced (withSegment m name (segmentAt (window m) x a)) next) Done)
+    (gives m Absent)
 
 unfoldable pub operated : Machine → Memories → Operation → ℕ → ℕ → Outcome
 operated m x (Save name) a next = saved m x name a next
 operated m x (Restore name) a next = ends (restored m x name a next) x
-operated m x Smint a next = over x (entryBySmint m (x .management) next)
+operated m x Smint a next = entryBySmint m x next
 operated m x Rsm a next = ends (resume m (x .management)) x
 operated m x Undefined a next = refused m x Invalid
 
-unfoldable pub opcode : Machine → Memories → Operation → ℕ → ℕ → Outcome
-opcode m x o a next = cond (valid m o) (operated m x o a next) (refused m x Invalid)
+unfoldable pub opcodeStep : Machine → Memories → ℕ → ℕ → ℕ → ℕ → Outcome
+opcodeStep m x op modrm a next =
+    let o = operationOf op modrm in cond (valid m o) (operated m x o a next) (refused m x Invalid)
 
--- a step that is neither malformed nor refused while halted, on memories of the right sizes
+-- ---- halt, wake
+
+abbrev pub haltStep : Machine → Stepped
+haltStep m = gives (withHalted m true) Done
+
+abbrev pub wakeStep : Machine → Stepped
+wakeStep m = gives (withHalted m false) Done
+
+-- ---- any step
+
+-- one that no refusal of 1 to 3 stops; a boundary that names no interruption is never that
 unfoldable pub performed : Machine → Memories → Step → Outcome
-performed m x Reset = ends (gives resetMachine Done) x
+performed m x Reset = ends resetStep x
 performed m x (Registers eip eflags cr0 dr7 selector descriptor level writable) =
-    ends (gives (setRegisters m eip eflags cr0 dr7 selector descriptor level writable) Done) x
--- "Data read or write. Width 1, 2 or 4, little-endian, low bytes of the value."
-performed m x (Read width a) = ends (gives m (reads (window m) x a width)) x
-performed m x (Write width a v) = stays m (writes (window m) x a width v)
-performed m x (PortRead port) = ends (ported m (portRead (m .config) port)) x
-performed m x (PortWrite port v) = ends (ported m (portWrite (m .config) port v (m .inside))) x
-performed m x (Opcode op modrm a next) = opcode m x (decoded op modrm) a next
-performed m x (Boundary smi current i) = over x (boundary m (x .management) (eqb smi 1) current i)
+    ends (registersStep m eip eflags cr0 dr7 selector descriptor level writable) x
+performed m x (Read width a) = ends (readStep m x width a) x
+performed m x (Write width a v) = writeStep m x width a v
+performed m x (PortRead port) = ends (portReadStep m port) x
+performed m x (PortWrite port v) = ends (portWriteStep m port v) x
+performed m x (Opcode op modrm a next) = opcodeStep m x op modrm a next
+performed m x (Boundary smi current i) = boundaryStep m x (eqb smi 1) current i
 performed m x UnnamedBoundary = refused m x Malformed
-performed m x Halt = ends (gives (withHalted m true) Done) x
-performed m x Wake = ends (gives (withHalted m false) Done) x
+performed m x Halt = ends (haltStep m) x
+performed m x Wake = ends (wakeStep m) x
 
--- "Numbers 1 to 5 are refusals, tested in that order; machine and memories stay."
+-- refused, or performed
+abbrev pub decided : Machine → Memories → Step → Verdict → Outcome
+decided m x s (Refused a) = refused m x a
+decided m x s Allowed = performed m x s
+
 unfoldable pub stepped : Machine → Memories → Step → Outcome
-stepped m x s = refusing (refused m x) (m .halted) x s (performed m x s)
-
--- a list of steps, "each step on what the one before left": the last machine and memories, and every answer in order
-pub record Run : Type 0 where
-  pub machine : Machine
-  pub memory : Memories
-  pub answers : List Answer
-
-unfoldable pub run : Machine → Memories → List Step → Run
-run m x [] = record { machine = m; memory = x; answers = [] }
-run m x (s ∷ ss) =
-    let o = stepped m x s in
-    let r = run (o .stepped .machine) (o .memory) ss in
-    record { machine = r .machine; memory = r .memory; answers = o .stepped .answer ∷ r .answers }
+stepped m x s = decided m x s (firstRefusal (m .halted) x s)

@@ -7,8 +7,9 @@ ghost use Rattle.memory.specs.Memory.{memories};
 ghost use Rattle.steps.specs.Steps.{isWidth, malformed};
 ghost use Rattle.machine.specs.Machines.{withRegisters, withHalted, withLatched, withSegments, segmentIn, withSegment, segment, resetMachine};
 ghost use Rattle.machine.specs.Outcomes.{gives, ends};
-ghost use Rattle.machine.specs.Service.{enteredMachine, entry, entryAtBoundary, entryBySmint, boundary, resume, permitted};
-ghost use Rattle.machine.specs.Steps.{window, resetStep, registersStep, readStep, writeStep, portStep, portReadStep, portWriteStep, haltStep, wakeStep, valid, advanced, saved, restored, operated, opcodeStep, performed, stepped};
+ghost use Rattle.machine.specs.Service.{enteredMachine, entry, entryAtBoundary, entryBySmint, boundaryStep, resume};
+ghost use Rattle.machine.specs.Widths.{MachineFits};
+ghost use Rattle.machine.specs.Steps.{window, resetStep, registersStep, readStep, writeStep, portStep, portReadStep, portWriteStep, haltStep, wakeStep, permitted, valid, advanced, saved, restored, operated, opcodeStep, performed, stepped};
 use config::Accessed;
 use config::Config;
 use config::Settings;
@@ -555,7 +556,7 @@ impl Machine {
         interruption: Interruption,
     ) -> Stepped
         ensures { λ r. ⌜ ((main : List ℕ) → ends r (memories main (now (management .exit)))
-            ≡ boundary self (memories main (now (management .entry))) (eqb smi 1) current interruption) ⌝ }
+            ≡ boundaryStep self (memories main (now (management .entry))) (eqb smi 1) current interruption) ⌝ }
     {
         let asserted = smi == 1;
         if self.inside {
@@ -691,3 +692,8 @@ fn either(b: bool, x: u32, y: u32) -> u32
 {
     if b { x } else { y }
 }
+
+// No code of the model: it holds the gate to the widths that theorems ask of a machine.
+fn widths(m: Machine)
+    ensures { λ r. ⌜ MachineFits m ⌝ }
+{}
