@@ -4,8 +4,8 @@ use machine::Machine;
 ghost use mathlib.Core.Path.{_≡_};
 ghost use Rattle.memory.specs.Memory.{memories};
 ghost use Rattle.machine.specs.Machines.{resetMachine};
-ghost use Rattle.player.specs.Player.{held, playing};
-ghost use Rattle.export.specs.Export.{reasonNumber, Exported};
+ghost use Rattle.player.specs.Player.{scriptOf, playing, Leaves};
+ghost use Rattle.export.specs.Export.{reasonNumber};
 
 fn reason_number(reason: Reason) -> u8
     ensures { λ r. ⌜ r ≡ reasonNumber reason ⌝ }
@@ -27,10 +27,10 @@ pub extern "C" fn rostuvlad_replay(
     events: &mut [u64; 10000],
     reason: &mut u8,
 ) -> usize
-    ensures { λ r. ⌜ Exported (held (now (trace .entry)))
+    ensures leaves { λ r. ⌜ Leaves (scriptOf (now (trace .entry)))
         (playing resetMachine (memories (now (main .entry)) (now (management .entry))) (now (trace .entry)))
-        r (now (reason .exit)) (memories (now (main .exit)) (now (management .exit)))
-        (now (numbers .entry)) (now (numbers .exit)) (now (values .entry)) (now (values .exit)) ⌝ }
+        r (memories (now (main .exit)) (now (management .exit))) (now (events .entry)) (now (events .exit)) ⌝ }
+    ensures reason { λ r. ⌜ now (reason .exit) ≡ reasonNumber (scriptOf (now (trace .entry)) .reason) ⌝ }
 {
     let played = player::play(trace, Machine::initial(), main, management, events);
     let why = played.reason;

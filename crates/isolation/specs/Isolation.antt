@@ -1,5 +1,7 @@
--- Demand 3: up to and including the first entry, nothing that a locked machine outside management mode does or answers depends on
--- management memory, and none of it is changed but by entry. One claim about the whole list of steps.
+-- Demand 3. Take a machine that is outside management mode with SMI_LOCK set and SMAC clear, a main memory, and two management memories of
+-- one size. Give both the same list of steps, none of them a reset. Up to and including the first step that either answers with "entered",
+-- answers, machines and main memories are the same in both, the locked settings are as at the start, and each management memory is as it was
+-- at its own start, but for the 48 bytes that entry writes, which are the same in both.
 use Prim.Native.Nat.{ℕ, _-_, _<_, suc}
 use mathlib.Core.Path.{_≡_}
 use mathlib.Core.Bool.{true, false, cond}
@@ -8,7 +10,7 @@ use lib.Dec.{eqb}
 use lib.ListN.{length, getD, take}
 use Rattle.memory.specs.Memory.{memories}
 use Rattle.steps.specs.declared.Answer.{Answer}
-use Rattle.steps.specs.declared.Answer.the-variants.{Done, Entered}
+use Rattle.steps.specs.declared.Answer.the-variants.{Done}
 use Rattle.steps.specs.declared.Step.{Step}
 use Rattle.steps.specs.declared.Step.the-variants.{Reset, Wake}
 use Rattle.steps.specs.Answers.{numberOf}
@@ -17,27 +19,28 @@ use Rattle.header.specs.declared.Saved.{Saved}
 use Rattle.header.specs.Header.{headerBytes}
 use Rattle.machine.specs.declared.Machine.{Machine}
 use Rattle.machine.specs.Service.{settingsOf}
-use Rattle.machine.specs.Steps.{Run, run}
+use Rattle.runs.specs.Runs.{Run, run, answersOf}
 use Rattle.isolation.specs.Service.{OnlyHeader}
 
--- "outside management mode with the lock bit set and SMAC clear"; it may be halted, and have an SMI latched
-pub record Locked (m : Machine) : Type 0 where
+-- what is asked of the machine at the start; it may be halted, and have an SMI latched
+pub record Start (m : Machine) : Type 0 where
   pub outside : m .inside ≡ false
   pub locked : smiLock (settingsOf m) ≡ true
   pub closed : smac (settingsOf m) ≡ false
 
--- "no reset"
+-- and of the steps
 abbrev pub NoReset : List Step → Type 0
 NoReset ss = (i : ℕ) → i < length ss → getD ss i Wake ≡ Reset → ⊥
 
--- no answer but the last, if any, is "entered": the steps end at or before the first entry
+-- no answer but the last, if any, is "entered", answer 11: the steps end at or before the first entry
 abbrev pub UpToEntry : List Answer → Type 0
-UpToEntry answers = (i : ℕ) → suc i < length answers → getD answers i Done ≡ Entered → ⊥
+UpToEntry answers = (i : ℕ) → suc i < length answers → numberOf (getD answers i Done) ≡ 11 → ⊥
 
-abbrev pub lastAnswer : List Answer → Answer
-lastAnswer answers = getD answers (length answers - 1) Done
+-- the number of the last answer; 0, which is "done", where there is none
+abbrev pub lastNumber : List Answer → ℕ
+lastNumber answers = numberOf (getD answers (length answers - 1) Done)
 
--- "entry writes the same 48 header bytes in both": those of one record of a machine, at the header's place of the start
+-- both memories got the header of one record, at the place that the settings of the start give
 pub record SameHeader (m : Machine) (g h g′ h′ : List ℕ) : Type 0 where
   pub saved : Saved
   pub first : OnlyHeader g g′ (headerPlace (settingsOf m)) (headerBytes saved)
@@ -45,28 +48,28 @@ pub record SameHeader (m : Machine) (g h g′ h′ : List ℕ) : Type 0 where
 
 -- two runs that began on the machine m, with management memories g and h
 pub record Agree (m : Machine) (g h : List ℕ) (a b : Run) : Type 0 where
-  pub answers : a .answers ≡ b .answers
+  pub events : a .events ≡ b .events
   pub machine : a .machine ≡ b .machine
   pub main : a .memory .main ≡ b .memory .main
   pub settings : SameLocked (settingsOf (a .machine)) (settingsOf m)
-  pub before : (lastAnswer (a .answers) ≡ Entered → ⊥) → (a .memory .management ≡ g) × (b .memory .management ≡ h)
-  pub entered : lastAnswer (a .answers) ≡ Entered → SameHeader m g h (a .memory .management) (b .memory .management)
+  pub before : (lastNumber (answersOf a) ≡ 11 → ⊥) → (a .memory .management ≡ g) × (b .memory .management ≡ h)
+  pub entered : lastNumber (answersOf a) ≡ 11 → SameHeader m g h (a .memory .management) (b .memory .management)
 
--- the claim: any such machine, main memory, two management memories of one length and list of steps; after any number k of the steps
+-- the claim: any such machine, memories and list of steps; after any number k of the steps
 abbrev pub Isolated : Type 0
 Isolated =
-    (m : Machine) (main g h : List ℕ) (ss : List Step) → Locked m → length g ≡ length h → NoReset ss → (k : ℕ)
+    (m : Machine) (main g h : List ℕ) (ss : List Step) → Start m → length g ≡ length h → NoReset ss → (k : ℕ)
     → let a = run m (memories main g) (take k ss) in
     let b = run m (memories main h) (take k ss) in
-    UpToEntry (a .answers) → UpToEntry (b .answers) → Agree m g h a b
+    UpToEntry (answersOf a) → UpToEntry (answersOf b) → Agree m g h a b
 
 -- the answers up to and including the first that is "entered"
 unfoldable pub throughEntry : List Answer → List Answer
 throughEntry [] = []
-throughEntry (a ∷ rest) = a ∷ cond (eqb (numberOf a) (numberOf Entered)) [] (throughEntry rest)
+throughEntry (a ∷ rest) = a ∷ cond (eqb (numberOf a) 11) [] (throughEntry rest)
 
 -- the same claim of the answers alone: whatever the whole list goes on to do, they are the same up to the first entry
 abbrev pub SameAnswers : Type 0
 SameAnswers =
-    (m : Machine) (main g h : List ℕ) (ss : List Step) → Locked m → length g ≡ length h → NoReset ss
-    → throughEntry (run m (memories main g) ss .answers) ≡ throughEntry (run m (memories main h) ss .answers)
+    (m : Machine) (main g h : List ℕ) (ss : List Step) → Start m → length g ≡ length h → NoReset ss
+    → throughEntry (answersOf (run m (memories main g) ss)) ≡ throughEntry (answersOf (run m (memories main h) ss))

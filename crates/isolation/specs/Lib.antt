@@ -1,3 +1,5 @@
 pub mod Refusals
 pub mod Service
 pub mod Isolation
+pub mod Tightness
+pub mod Examples

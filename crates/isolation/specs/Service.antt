@@ -1,26 +1,34 @@
--- Demand 2: what entry writes and loads, and what RSM right after it loads back.
+-- Demand 2: which steps enter, what entry writes and loads, and what RSM right after it loads back. "Entered" is answer 11, "resumed" 12.
 use Prim.Native.Nat.{ℕ, _+_, _≤_, _<_}
 use mathlib.Core.Path.{_≡_}
-use mathlib.Core.Bool.{Bool, true, false}
+use mathlib.Core.Bool.{Bool, true, false, _||_}
 use mathlib.Core.List.{List}
+use lib.Dec.{eqb}
 use lib.ListN.{length, getD}
 use Rattle.memory.specs.Memory.{Memories}
-use Rattle.steps.specs.declared.Answer.the-variants.{Entered, Resumed}
 use Rattle.steps.specs.declared.Step.{Step}
-use Rattle.steps.specs.declared.Step.the-variants.{Reset, Registers, Read, Write, PortRead, PortWrite, Opcode, Boundary, UnnamedBoundary, Halt, Wake}
+use Rattle.steps.specs.declared.Step.the-variants.{Opcode, Boundary}
 use Rattle.steps.specs.declared.Interruption.{Interruption}
+use Rattle.steps.specs.Answers.{numberOf}
+use Rattle.steps.specs.Widths.{StepFits}
+use Rattle.refusals.specs.declared.Verdict.the-variants.{Allowed}
+use Rattle.refusals.specs.Refusals.{firstRefusal}
 use Rattle.opcodes.specs.declared.Operation.the-variants.{Smint}
-use Rattle.opcodes.specs.Decode.{decoded}
-use Rattle.config.specs.Settings.{regionIn, headerPlace}
+use Rattle.opcodes.specs.Decode.{operationOf}
+use Rattle.config.specs.Settings.{regionIn, enabled, headerPlace}
 use Rattle.header.specs.declared.Saved.{Saved}
 use Rattle.header.specs.declared.Level.the-variants.{Zero}
 use Rattle.header.specs.Header.{headerBytes, withEip}
 use Rattle.header.specs.Entry.{entryCr0, entryCs}
-use Rattle.header.specs.ReadBack.{SavedFits}
 use Rattle.machine.specs.declared.Machine.{Machine}
 use Rattle.machine.specs.Outcomes.{Outcome}
 use Rattle.machine.specs.Service.{settingsOf, savedAtBoundary, savedBySmint}
-use Rattle.machine.specs.Steps.{stepped}
+use Rattle.machine.specs.Steps.{valid, stepped}
+use Rattle.machine.specs.Widths.{MachineFits}
+
+-- the number of a step's answer
+abbrev pub answerTo : Machine → Memories → Step → ℕ
+answerTo m x s = numberOf (stepped m x s .stepped .answer)
 
 -- a memory is as it was but for 48 bytes from a place on, which all lie in it
 pub record OnlyHeader (g g′ : List ℕ) (at : ℕ) (bytes : List ℕ) : Type 0 where
@@ -31,39 +39,32 @@ pub record OnlyHeader (g g′ : List ℕ) (at : ℕ) (bytes : List ℕ) : Type 0
   pub header : (i : ℕ) → i < 48 → getD g′ (at + i) 0 ≡ getD bytes i 0
   pub above : (i : ℕ) → at + 48 ≤ i → getD g′ i 0 ≡ getD g i 0
 
--- the steps that enter: a boundary, and SMINT
+-- the two ways to enter: a boundary, and SMINT
 pub data Entering : Step → Type 0 where
   at-boundary : {smi current : ℕ} {i : Interruption} → Entering (Boundary smi current i)
-  by-smint : {op modrm a next : ℕ} → decoded op modrm ≡ Smint → Entering (Opcode op modrm a next)
+  by-smint : {op modrm a next : ℕ} → operationOf op modrm ≡ Smint → Entering (Opcode op modrm a next)
 
--- what a step that enters records, and how it leaves the latch; no other step enters
-abbrev pub savedBy : Machine → Step → Saved
-savedBy m Reset = savedBySmint m 0
-savedBy m (Registers eip eflags cr0 dr7 selector descriptor level writable) = savedBySmint m 0
-savedBy m (Read width a) = savedBySmint m 0
-savedBy m (Write width a v) = savedBySmint m 0
-savedBy m (PortRead port) = savedBySmint m 0
-savedBy m (PortWrite port v) = savedBySmint m 0
-savedBy m (Opcode op modrm a next) = savedBySmint m next
-savedBy m (Boundary smi current i) = savedAtBoundary m current i
-savedBy m UnnamedBoundary = savedBySmint m 0
-savedBy m Halt = savedBySmint m 0
-savedBy m Wake = savedBySmint m 0
+-- what each records, and how it leaves the latch
+abbrev pub recorded : Machine → {s : Step} → Entering s → Saved
+recorded m (Entering.at-boundary {smi} {current} {i}) = savedAtBoundary m current i
+recorded m (Entering.by-smint {op} {modrm} {a} {next} e) = savedBySmint m next
 
-abbrev pub latchAfter : Machine → Step → Bool
-latchAfter m Reset = false
-latchAfter m (Registers eip eflags cr0 dr7 selector descriptor level writable) = false
-latchAfter m (Read width a) = false
-latchAfter m (Write width a v) = false
-latchAfter m (PortRead port) = false
-latchAfter m (PortWrite port v) = false
-latchAfter m (Opcode op modrm a next) = m .latched
-latchAfter m (Boundary smi current i) = false
-latchAfter m UnnamedBoundary = false
-latchAfter m Halt = false
-latchAfter m Wake = false
+abbrev pub latchAfter : Machine → {s : Step} → Entering s → Bool
+latchAfter m (Entering.at-boundary {smi} {current} {i}) = false
+latchAfter m (Entering.by-smint {op} {modrm} {a} {next} e) = m .latched
 
--- "Entry writes the 48 header bytes exactly and loads the stated entry state": m and x are before the step s, and o is after it
+-- An SMI that is asserted or latched enters at a boundary outside the mode where SMIs are enabled, unless refused; so does a valid SMINT.
+abbrev pub SmiEnters : Type 0
+SmiEnters =
+    (m : Machine) (x : Memories) (smi current : ℕ) (i : Interruption) → firstRefusal (m .halted) x (Boundary smi current i) ≡ Allowed
+    → m .inside ≡ false → enabled (settingsOf m) ≡ true → (eqb smi 1 || m .latched) ≡ true → answerTo m x (Boundary smi current i) ≡ 11
+
+abbrev pub SmintEnters : Type 0
+SmintEnters =
+    (m : Machine) (x : Memories) (op modrm a next : ℕ) → firstRefusal (m .halted) x (Opcode op modrm a next) ≡ Allowed
+    → operationOf op modrm ≡ Smint → valid m Smint ≡ true → answerTo m x (Opcode op modrm a next) ≡ 11
+
+-- entry writes the 48 header bytes and loads its state, and nothing else moves: m and x are before the step s, and o is after it
 pub record Entry (m : Machine) (x : Memories) (s : Step) (o : Outcome) : Type 0 where
   pub by : Entering s
   pub eip : o .stepped .machine .registers .eip ≡ 0
@@ -75,20 +76,20 @@ pub record Entry (m : Machine) (x : Memories) (s : Step) (o : Outcome) : Type 0 
   pub writable : o .stepped .machine .registers .writable ≡ true
   pub halted : o .stepped .machine .halted ≡ false
   pub inside : o .stepped .machine .inside ≡ true
-  pub latched : o .stepped .machine .latched ≡ latchAfter m s
+  pub latched : o .stepped .machine .latched ≡ latchAfter m by
   pub segments : o .stepped .machine .segments ≡ m .segments
   pub config : o .stepped .machine .config ≡ m .config
   pub main : o .memory .main ≡ x .main
-  pub management : OnlyHeader (x .management) (o .memory .management) (headerPlace (settingsOf m)) (headerBytes (savedBy m s))
+  pub management : OnlyHeader (x .management) (o .memory .management) (headerPlace (settingsOf m)) (headerBytes (recorded m by))
 
+-- whatever answers 11 is such an entry
 abbrev pub EntersAsStated : Type 0
-EntersAsStated =
-    (m : Machine) (x : Memories) (s : Step) → stepped m x s .stepped .answer ≡ Entered → Entry m x s (stepped m x s)
+EntersAsStated = (m : Machine) (x : Memories) (s : Step) → answerTo m x s ≡ 11 → Entry m x s (stepped m x s)
 
--- "resume reads those bytes back into the registers they came from": m is before entry, e is after it, and o is after RSM
-pub record Resume (m : Machine) (s : Step) (e o : Outcome) : Type 0 where
-  pub answer : o .stepped .answer ≡ Resumed
-  pub registers : o .stepped .machine .registers ≡ withEip (m .registers) (savedBy m s .next)
+-- RSM reads the header back into the registers that it came from: m is before entry, e is after it, and o is after RSM
+pub record Resume (m : Machine) (s : Step) (by : Entering s) (e o : Outcome) : Type 0 where
+  pub answer : numberOf (o .stepped .answer) ≡ 12
+  pub registers : o .stepped .machine .registers ≡ withEip (m .registers) (recorded m by .next)
   pub halted : o .stepped .machine .halted ≡ false
   pub inside : o .stepped .machine .inside ≡ false
   pub latched : o .stepped .machine .latched ≡ e .stepped .machine .latched
@@ -96,8 +97,9 @@ pub record Resume (m : Machine) (s : Step) (e o : Outcome) : Type 0 where
   pub config : o .stepped .machine .config ≡ m .config
   pub memory : o .memory ≡ e .memory
 
--- RSM right after entry, where what entry records are numbers of their widths, as those of every machine and step of the code are
+-- RSM right after entry, where every number of the machine and of the step has the width of its type
 abbrev pub ResumesAsEntered : Type 0
 ResumesAsEntered =
-    (m : Machine) (x : Memories) (s : Step) (modrm a next : ℕ) → stepped m x s .stepped .answer ≡ Entered → SavedFits (savedBy m s)
-    → let e = stepped m x s in Resume m s e (stepped (e .stepped .machine) (e .memory) (Opcode 0xaa modrm a next))
+    (m : Machine) (x : Memories) (s : Step) (modrm a next : ℕ) → MachineFits m → StepFits s → (entered : answerTo m x s ≡ 11)
+    → let e = stepped m x s in
+    (by : Entering s) → Resume m s by e (stepped (e .stepped .machine) (e .memory) (Opcode 0xaa modrm a next))

@@ -1,16 +1,43 @@
-// Theorems about the step: specs/ has their statements, and proofs/ their proofs.
-ghost use Rattle.header.specs.ReadBack.{WordsReadBack};
+// Theorems about the step and about lists of steps, and no code: specs/ has their statements, and proofs/ their proofs.
 ghost use Rattle.isolation.specs.Refusals.{RefusedAsCalledFor, RefusalChangesNothing};
-ghost use Rattle.isolation.specs.Service.{EntersAsStated, ResumesAsEntered};
+ghost use Rattle.isolation.specs.Service.{SmiEnters, SmintEnters, EntersAsStated, ResumesAsEntered};
 ghost use Rattle.isolation.specs.Isolation.{Isolated, SameAnswers};
+ghost use Rattle.isolation.specs.Tightness.{StartAsked, NoResetAsked, UpToEntryAsked, LastIsLast, WholeList, HeaderDetermines, EntryDetermines, ResumeDetermines, AgreementDetermines};
+ghost use Rattle.isolation.specs.Examples.{IsolationExample, EntryExamples, RefusalExamples};
 
-// No code of the model: it holds the gate to the theorems, since a function is proved only with all that it ensures.
-fn theorems()
+// These hold the gate to the theorems, since a function is proved only with all that it ensures.
+fn demand_1()
     ensures refused { λ r. ⌜ RefusedAsCalledFor ⌝ }
     ensures unchanged { λ r. ⌜ RefusalChangesNothing ⌝ }
-    ensures words { λ r. ⌜ WordsReadBack ⌝ }
+    ensures examples { λ r. ⌜ RefusalExamples ⌝ }
+{}
+
+fn demand_2()
+    ensures smi { λ r. ⌜ SmiEnters ⌝ }
+    ensures smint { λ r. ⌜ SmintEnters ⌝ }
     ensures enters { λ r. ⌜ EntersAsStated ⌝ }
     ensures resumes { λ r. ⌜ ResumesAsEntered ⌝ }
+    ensures examples { λ r. ⌜ EntryExamples ⌝ }
+{}
+
+fn demand_3()
     ensures isolated { λ r. ⌜ Isolated ⌝ }
     ensures answers { λ r. ⌜ SameAnswers ⌝ }
+    ensures examples { λ r. ⌜ IsolationExample ⌝ }
+{}
+
+// What the hypotheses ask for, and what the claims settle.
+fn hypotheses()
+    ensures start { λ r. ⌜ StartAsked ⌝ }
+    ensures resets { λ r. ⌜ NoResetAsked ⌝ }
+    ensures entry { λ r. ⌜ UpToEntryAsked ⌝ }
+    ensures last { λ r. ⌜ LastIsLast ⌝ }
+    ensures whole { λ r. ⌜ WholeList ⌝ }
+{}
+
+fn claims()
+    ensures header { λ r. ⌜ HeaderDetermines ⌝ }
+    ensures entry { λ r. ⌜ EntryDetermines ⌝ }
+    ensures resume { λ r. ⌜ ResumeDetermines ⌝ }
+    ensures agreement { λ r. ⌜ AgreementDetermines ⌝ }
 {}

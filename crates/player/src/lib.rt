@@ -2,13 +2,10 @@ use lines::Reason;
 use machine::Machine;
 use trace::Found;
 ghost use mathlib.Core.Path.{_≡_};
-ghost use Prim.Native.Nat.{_<_};
-ghost use lib.ListN.{set};
-ghost use Rattle.steps.specs.Answers.{numberOf, valueOf};
 ghost use Rattle.memory.specs.Memory.{memories};
-ghost use Rattle.lines.specs.Stores.{Written};
-ghost use Rattle.player.specs.Output.{outputOf};
-ghost use Rattle.player.specs.Player.{held, playing, Plays, Replays};
+ghost use Rattle.lines.specs.Stores.{Printed};
+ghost use Rattle.player.specs.Output.{replayText, outputOf};
+ghost use Rattle.player.specs.Player.{scriptOf, playing, Plays};
 
 const RECORD_LIMIT: usize = 10000;
 
@@ -69,16 +66,17 @@ pub fn play(
 }
 
 // Plays a trace and writes its text. The result is the text's size.
-fn replay(
+pub fn replay(
     trace: &[u8],
     start: Machine,
     main: &mut [u8],
     management: &mut [u8],
     out: &mut [u8; 130006],
 ) -> usize
-    ensures { λ r. ⌜ Replays (held (now (trace .entry)))
-        (playing start (memories (now (main .entry)) (now (management .entry))) (now (trace .entry)))
-        r (memories (now (main .exit)) (now (management .exit))) (now (out .entry)) (now (out .exit)) ⌝ }
+    ensures prints { λ r. ⌜ Printed (replayText start (memories (now (main .entry)) (now (management .entry))) (now (trace .entry)))
+        r (now (out .entry)) (now (out .exit)) ⌝ }
+    ensures leaves { λ r. ⌜ memories (now (main .exit)) (now (management .exit))
+        ≡ playing start (memories (now (main .entry)) (now (management .entry))) (now (trace .entry)) .memory ⌝ }
 {
     let mut events = [0u64; 10000];
     let played = play(trace, start, main, management, &mut events);
@@ -88,7 +86,7 @@ fn replay(
 
 // All that the program prints for an input. The result is its size.
 pub fn output(input: &[u8], out: &mut [u8; 130006]) -> usize
-    ensures { λ r. ⌜ Written (outputOf (now (input .entry))) r (now (out .entry)) (now (out .exit)) ⌝ }
+    ensures { λ r. ⌜ Printed (outputOf (now (input .entry))) r (now (out .entry)) (now (out .exit)) ⌝ }
 {
     if 65536 < input.len() {
         return lines::write_long(out);

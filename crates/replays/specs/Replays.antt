@@ -1,29 +1,31 @@
--- What demand 3 says of the player: two replays of one trace, over two management memories, print the same lines up to and including the
--- first "entered".
+-- What demand 3 says of the player: two replays of one trace, from one machine that is outside the mode with SMI_LOCK set and SMAC clear, over
+-- one main memory and two management memories of one size, print the same lines up to and including the first "entered", if the trace holds
+-- no reset.
 use Prim.Native.Nat.{ℕ}
 use mathlib.Core.Path.{_≡_}
 use mathlib.Core.List.{List}
 use lib.ListN.{length, take}
-use Rattle.steps.specs.declared.Answer.{Answer}
-use Rattle.memory.specs.Memory.{memories}
+use Rattle.memory.specs.Memory.{Memories, memories}
 use Rattle.machine.specs.declared.Machine.{Machine}
-use Rattle.lines.specs.Lines.{linesOf, textOf}
-use Rattle.player.specs.Player.{held, playing}
-use Rattle.isolation.specs.Isolation.{Locked, NoReset, throughEntry}
+use Rattle.runs.specs.Runs.{answersOf}
+use Rattle.lines.specs.Lines.{linesOf}
+use Rattle.player.specs.Player.{scriptOf, playing}
+use Rattle.player.specs.Output.{replayText}
+use Rattle.isolation.specs.Isolation.{Start, NoReset, throughEntry}
 
--- the lines of some answers up to and including the first "entered"
-abbrev pub linesThroughEntry : List Answer → List ℕ
-linesThroughEntry answers = linesOf (throughEntry answers)
+-- the lines of a replay up to and including the first "entered", answer 11
+abbrev pub linesThroughEntry : Machine → Memories → List ℕ → List ℕ
+linesThroughEntry m x trace = linesOf (throughEntry (answersOf (playing m x trace)))
 
--- the text of a replay begins with them, whatever stopped it
+-- a text begins with them, whatever stopped the replay
 abbrev pub Begins : List ℕ → List ℕ → Type 0
 Begins text start = take (length start) text ≡ start
 
 abbrev pub SameLines : Type 0
 SameLines =
-    (m : Machine) (main g h trace : List ℕ) → Locked m → length g ≡ length h → NoReset (held trace .steps)
-    → let a = playing m (memories main g) trace .answers in
-    let b = playing m (memories main h) trace .answers in
-    (linesThroughEntry a ≡ linesThroughEntry b)
-    × Begins (textOf a (held trace .reason)) (linesThroughEntry a)
-    × Begins (textOf b (held trace .reason)) (linesThroughEntry b)
+    (m : Machine) (main g h trace : List ℕ) → Start m → length g ≡ length h → NoReset (scriptOf trace .steps)
+    → let x = memories main g in
+    let y = memories main h in
+    (linesThroughEntry m x trace ≡ linesThroughEntry m y trace)
+    × Begins (replayText m x trace) (linesThroughEntry m x trace)
+    × Begins (replayText m y trace) (linesThroughEntry m y trace)

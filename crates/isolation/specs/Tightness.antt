@@ -1,0 +1,90 @@
+-- How tight the statements are (01). Were a hypothesis to ask for more, or a claim to say less, every theorem would stay proved, and one of
+-- these laws would fail.
+use Prim.Native.Nat.{ℕ, _/_, _%_}
+use mathlib.Core.Path.{_≡_}
+use mathlib.Core.Bool.{false}
+use mathlib.Core.List.{List, [], _∷_, _++_}
+use lib.ListN.{length}
+use lib.Seq.{sets}
+use Rattle.memory.specs.Memory.{Memories, memories}
+use Rattle.steps.specs.declared.Answer.{Answer}
+use Rattle.steps.specs.declared.Answer.the-variants.{Resumed}
+use Rattle.steps.specs.declared.Step.{Step}
+use Rattle.steps.specs.declared.Step.the-variants.{Reset}
+use Rattle.steps.specs.Answers.{numberOf}
+use Rattle.config.specs.Settings.{headerPlace}
+use Rattle.config.specs.Locked.{Fixed, SettingsFit}
+use Rattle.header.specs.Header.{headerBytes, withEip}
+use Rattle.machine.specs.declared.Machine.{Machine}
+use Rattle.machine.specs.Machines.{machine}
+use Rattle.machine.specs.Outcomes.{Outcome, gives, ends}
+use Rattle.machine.specs.Service.{settingsOf, entry}
+use Rattle.runs.specs.Runs.{Run, run, answersOf}
+use Rattle.isolation.specs.Service.{OnlyHeader, Entering, recorded, latchAfter, Entry, Resume}
+use Rattle.isolation.specs.Isolation.{Start, NoReset, UpToEntry, lastNumber, Agree}
+
+-- ---- the hypotheses ask for no more
+
+-- CCR3 bit 0 set, CCR1 bit 2 clear, outside the mode
+abbrev pub StartAsked : Type 0
+StartAsked =
+    (m : Machine) → m .inside ≡ false → m .config .settings .ccr3 % 2 ≡ 1 → m .config .settings .ccr1 / 4 % 2 ≡ 0 → Start m
+
+-- any steps that are not resets
+abbrev pub NoResetAsked : Type 0
+NoResetAsked = NoReset [] × ((s : Step) (ss : List Step) → (s ≡ Reset → ⊥) → NoReset ss → NoReset (s ∷ ss))
+
+-- the first entry may be the last step
+abbrev pub UpToEntryAsked : Type 0
+UpToEntryAsked =
+    ((a : Answer) → UpToEntry (a ∷ []))
+    × ((a b : Answer) (bs : List Answer) → (numberOf a ≡ 11 → ⊥) → UpToEntry (b ∷ bs) → UpToEntry (a ∷ b ∷ bs))
+
+abbrev pub LastIsLast : Type 0
+LastIsLast = (bs : List Answer) (a : Answer) → lastNumber (bs ++ (a ∷ [])) ≡ numberOf a
+
+-- the whole list is one of the beginnings that the claim speaks of
+abbrev pub WholeList : Type 0
+WholeList =
+    (m : Machine) (main g h : List ℕ) (ss : List Step) → Start m → length g ≡ length h → NoReset ss
+    → UpToEntry (answersOf (run m (memories main g) ss)) → UpToEntry (answersOf (run m (memories main h) ss))
+    → Agree m g h (run m (memories main g) ss) (run m (memories main h) ss)
+
+-- ---- the claims leave nothing open
+
+-- every byte of a memory with a header in it
+abbrev pub HeaderDetermines : Type 0
+HeaderDetermines = (g g′ : List ℕ) (at : ℕ) (bytes : List ℕ) → OnlyHeader g g′ at bytes → g′ ≡ sets g at bytes
+
+-- every register and byte after entry
+abbrev pub EntryDetermines : Type 0
+EntryDetermines =
+    (m : Machine) (x : Memories) (s : Step) (o : Outcome) → numberOf (o .stepped .answer) ≡ 11 → (e : Entry m x s o)
+    → o ≡ entry m x (recorded m (e .by)) (latchAfter m (e .by))
+
+-- and after RSM
+abbrev pub ResumeDetermines : Type 0
+ResumeDetermines =
+    (m : Machine) (s : Step) (by : Entering s) (e o : Outcome) → Resume m s by e o
+    → o
+    ≡ ends
+    (gives (machine (withEip (m .registers) (recorded m by .next)) (m .segments) false false (e .stepped .machine .latched) (m .config)) Resumed)
+    (e .memory)
+
+-- the second run is the first with another management memory
+abbrev pub second : Run → List ℕ → Run
+second a l = record { machine = a .machine; memory = memories (a .memory .main) l; events = a .events }
+
+-- before entry each has its own, and at entry its own with the same 48 bytes in it
+pub record Determined (m : Machine) (g h : List ℕ) (a b : Run) (c : Agree m g h a b) : Type 0 where
+  pub before : (lastNumber (answersOf a) ≡ 11 → ⊥) → (a .memory .management ≡ g) × (b ≡ second a h)
+  pub entered : (e : lastNumber (answersOf a) ≡ 11)
+      → let at = headerPlace (settingsOf m) in
+      let bytes = headerBytes (c .entered e .saved) in
+      (a .memory .management ≡ sets g at bytes) × (b ≡ second a (sets h at bytes))
+  -- the locked settings as 01 lists them, of bytes
+  pub settings : SettingsFit (settingsOf (a .machine)) → SettingsFit (settingsOf m)
+      → Fixed (settingsOf (a .machine)) (settingsOf m) × Fixed (settingsOf (b .machine)) (settingsOf m)
+
+abbrev pub AgreementDetermines : Type 0
+AgreementDetermines = (m : Machine) (g h : List ℕ) (a b : Run) (c : Agree m g h a b) → Determined m g h a b c
