@@ -146,8 +146,8 @@ locked-as-listed s t hs ht = (
         (cond a 0x0e (cond b 0x03 (cond (c || d || e) 0xff 0)))
 
     go : Fixed s t → (a b c d e : Bool) → part s a b c d e ≡ part t a b c d e
-    go f true b c d e = and-high (s .ccr1) 3 1 ∙ rw (f .ccr1) (sym (and-high (t .ccr1) 3 1))
-    go f false true c d e = and-mask (s .ccr3) 2 ∙ rw (f .ccr3) (sym (and-mask (t .ccr3) 2))
+    go f true b c d e = and-high (s .ccr1) 3 1 ∙ omega (arith, f .ccr1) ∙ sym (and-high (t .ccr1) 3 1)
+    go f false true c d e = and-mask (s .ccr3) 2 ∙ f .ccr3 ∙ sym (and-mask (t .ccr3) 2)
     go f false false true d e = rw (f .high)
     go f false false false true e = rw (f .middle)
     go f false false false false true = rw (f .low)
