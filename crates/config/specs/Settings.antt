@@ -72,7 +72,7 @@ unfoldable pub keptBits : Settings → ℕ → Bool → ℕ
 keptBits s i inside = cond (smiLock s) (cond inside (stickyBits i) (lockedBits i)) 0
 
 -- a byte of the old bits under a mask, and of the new ones elsewhere
-unfoldable pub merged : ℕ → ℕ → ℕ → ℕ
+abbrev pub merged : ℕ → ℕ → ℕ → ℕ
 merged mask old new = bitOr (bitAnd old mask) (bitAnd new (0xff - mask))
 
 -- a write to the byte at an index
