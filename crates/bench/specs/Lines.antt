@@ -9,12 +9,11 @@ use Rattle.region.specs.Region.{regionOf, sizeOf, usable}
 use Rattle.fields.specs.Fields.{fieldAt, number}
 use Rattle.memory.specs.Memory.{Memories}
 use Rattle.steps.specs.declared.Interruption.{Interruption}
-use Rattle.steps.specs.declared.Interruption.the-variants.{Output}
-use Rattle.steps.specs.declared.Step.the-variants.{Boundary}
-use Rattle.steps.specs.Answers.{numberOf}
-use Rattle.steps.specs.Steps.{malformed}
-use Rattle.config.specs.declared.Settings.{Settings}
-use Rattle.config.specs.Settings.{useSmi, smac, smiLock, regionIn, written}
+use Rattle.steps.specs.declared.Interruption.the-variants.{None, Output}
+use Rattle.steps.specs.declared.Step.the-variants.{PortWrite, Boundary}
+use Rattle.refusals.specs.declared.Verdict.the-variants.{Allowed}
+use Rattle.refusals.specs.Refusals.{wrongSizes, firstRefusal}
+use Rattle.config.specs.Settings.{useSmi, smac, smiLock, regionIn}
 use Rattle.header.specs.declared.Level.{Level}
 use Rattle.header.specs.declared.Level.the-variants.{Zero, Three}
 use Rattle.header.specs.declared.Registers.{Registers}
@@ -22,24 +21,20 @@ use Rattle.header.specs.Header.{headerBytes}
 use Rattle.machine.specs.declared.Machine.{Machine}
 use Rattle.machine.specs.Outcomes.{Outcome}
 use Rattle.machine.specs.Service.{settingsOf, savedAtBoundary}
-use Rattle.access.specs.Access.{wrongSizes, malformedOn}
 use Rattle.machine.specs.Steps.{stepped}
-use Rattle.isolation.specs.Service.{OnlyHeader}
+use Rattle.isolation.specs.Service.{answerTo, OnlyHeader}
 
 abbrev pub region : ℕ → ℕ → Region
 region base code = record { base = base; code = code }
 
-abbrev pub outside : Bool
-outside = false
-
--- A row: what is given, and then what the sheet says of it. A new kind of row is a constructor more, with a clause of `holds` and, in
+-- A row: what is given, and then what the sheet says of it. A new kind of row is a constructor more, with a clause of `states` and, in
 -- proofs/Sheet.antt, of `test` and `sound`.
 pub data Line : Type 0 where
   -- the bytes CDh, CEh and CFh; the base, the code and the size of the region they name
   Smar : (high middle low base code size : ℕ) → Line
   -- base and code; is the region usable
   IsUsable : (base code : ℕ) (answer : Bool) → Line
-  -- CCR1 before a write under the lock outside the mode, the byte written, and CCR1 after
+  -- of one step, a write to port 23h: CCR1 before it, the byte written, and CCR1 after
   LockedCcr1 : (before value after : ℕ) → Line
   -- The rest are of one step, a boundary with SMI asserted, which enters: of every such step of every machine with what is given.
   -- base and code; the first and the last byte of the header in management memory
@@ -53,16 +48,31 @@ pub data Line : Type 0 where
   -- the registers of a machine that is not halted, the current address and the interruption; the header's 48 bytes upward
   Header : (registers : Registers) (current : ℕ) (i : Interruption) (bytes : List ℕ) → Line
 
+-- Before a write to CCR1 by port 23h: any machine that is awake, outside the mode, locked and armed at C1h, and any memories of the right
+-- sizes.
+pub record Armed : Type 0 where
+  pub machine : Machine
+  pub memory : Memories
+  pub sizes : wrongSizes memory ≡ false
+  pub awake : machine .halted ≡ false
+  pub outside : machine .inside ≡ false
+  pub locked : smiLock (settingsOf machine) ≡ true
+  pub armed : machine .config .armed ≡ true
+  pub index : machine .config .index ≡ 0xc1
+
+pub record ArmedExample (ccr1 : ℕ) : Type 0 where
+  pub before : Armed
+  pub given : settingsOf (before .machine) .ccr1 ≡ ccr1
+
 -- Before a boundary with SMI asserted: any machine outside the mode with USE_SMI 1 and SMAC 0, halted or not, and any memories of the
 -- right sizes, where the step is not malformed.
 pub record Before (current : ℕ) (i : Interruption) : Type 0 where
   pub machine : Machine
   pub memory : Memories
+  pub taken : firstRefusal (machine .halted) memory (Boundary 1 current i) ≡ Allowed
   pub outside : machine .inside ≡ false
   pub on : useSmi (settingsOf machine) ≡ true
   pub closed : smac (settingsOf machine) ≡ false
-  pub sizes : wrongSizes memory ≡ false
-  pub formed : malformedOn (machine .halted) (Boundary 1 current i) ≡ false
 
 module _ {current : ℕ} {i : Interruption} (b : Before current i) where
   abbrev pub regionBefore : Region
@@ -71,45 +81,56 @@ module _ {current : ℕ} {i : Interruption} (b : Before current i) where
   abbrev pub outcome : Outcome
   outcome = stepped (b .machine) (b .memory) (Boundary 1 current i)
 
-  -- "entered"
+  -- the answer is "entered"
   abbrev pub Enters : Type 0
-  Enters = numberOf (outcome .stepped .answer) ≡ 11
+  Enters = answerTo (b .machine) (b .memory) (Boundary 1 current i) ≡ 11
 
   -- the step stores 48 bytes from a place of management memory on, and no other byte there changes
   abbrev pub Stores : ℕ → List ℕ → Type 0
   Stores = OnlyHeader (b .memory .management) (outcome .memory .management)
 
-  -- "Offsets from the region's end"
-  abbrev pub below : ℕ → ℕ
-  below offset = sizeOf (regionBefore .code) - offset
+  -- the place so many bytes below the region's end
+  abbrev pub fromEnd : ℕ → ℕ
+  fromEnd offset = sizeOf (regionBefore .code) - offset
 
--- What a row states, whatever else a machine holds.
-abbrev pub holds : Line → Type 0
-holds (Smar high middle low base code size) = (regionOf high middle low ≡ region base code) × (sizeOf code ≡ size)
-holds (IsUsable base code answer) = usable (region base code) ≡ answer
-holds (LockedCcr1 before value after) =
-    (s : Settings) → smiLock s ≡ true → s .ccr1 ≡ before → written s 0xc1 value outside .ccr1 ≡ after
-holds (HeaderAt base code first last) =
-    (current : ℕ) (i : Interruption) (b : Before current i) → regionBefore b ≡ region base code
-    → Enters b × Stores b first (headerBytes (savedAtBoundary (b .machine) current i)) × (first + 48 ≡ last + 1)
-holds (EntryCs base code selector) =
-    (current : ℕ) (i : Interruption) (b : Before current i) → regionBefore b ≡ region base code
-    → Enters b × (outcome b .stepped .machine .registers .cs .selector ≡ selector)
-holds (EntryCr0 before after) =
-    (current : ℕ) (i : Interruption) (b : Before current i) → usable (regionBefore b) ≡ true
-    → b .machine .registers .cr0 ≡ before → Enters b × (outcome b .stepped .machine .registers .cr0 ≡ after)
-holds (LevelWord level selector word) =
-    (current : ℕ) (i : Interruption) (b : Before current i) → usable (regionBefore b) ≡ true
+-- a machine, memories and a boundary of which a row speaks
+pub record Example (current : ℕ) (i : Interruption) (Given : Before current i → Type 0) : Type 0 where
+  pub before : Before current i
+  pub given : Given before
+
+-- What a row states, whatever else a machine holds. A row about a step also says that there is a machine of which it speaks.
+abbrev pub states : Line → Type 0
+states (Smar high middle low base code size) = (regionOf high middle low ≡ region base code) × (sizeOf code ≡ size)
+states (IsUsable base code answer) = usable (region base code) ≡ answer
+states (LockedCcr1 before value after) =
+    ArmedExample before
+    × ((b : Armed) → settingsOf (b .machine) .ccr1 ≡ before
+    → let s = PortWrite 0x23 value in
+    (answerTo (b .machine) (b .memory) s ≡ 0)
+    × (settingsOf (stepped (b .machine) (b .memory) s .stepped .machine) .ccr1 ≡ after))
+states (HeaderAt base code first last) =
+    Example 0x1000 None (λ b. regionBefore b ≡ region base code)
+    × ((current : ℕ) (i : Interruption) (b : Before current i) → regionBefore b ≡ region base code
+    → Enters b × Stores b first (headerBytes (savedAtBoundary (b .machine) current i)) × (first + 48 ≡ last + 1))
+states (EntryCs base code selector) =
+    Example 0x1000 None (λ b. regionBefore b ≡ region base code)
+    × ((current : ℕ) (i : Interruption) (b : Before current i) → regionBefore b ≡ region base code
+    → Enters b × (outcome b .stepped .machine .registers .cs .selector ≡ selector))
+states (EntryCr0 before after) =
+    Example 0x1000 None (λ b. (usable (regionBefore b) ≡ true) × (b .machine .registers .cr0 ≡ before))
+    × ((current : ℕ) (i : Interruption) (b : Before current i) → usable (regionBefore b) ≡ true
+    → b .machine .registers .cr0 ≡ before → Enters b × (outcome b .stepped .machine .registers .cr0 ≡ after))
+states (LevelWord level selector word) =
+    Example 0x1000 None (λ b. (usable (regionBefore b) ≡ true) × (b .machine .registers .level ≡ level) × (b .machine .registers .cs .selector ≡ selector))
+    × ((current : ℕ) (i : Interruption) (b : Before current i) → usable (regionBefore b) ≡ true
     → b .machine .registers .level ≡ level → b .machine .registers .cs .selector ≡ selector
-    → Enters b × (fieldAt (outcome b .memory .management) (below b 0x18) 4 ≡ word)
--- the first part: the row names a step that a machine can take
-holds (Header registers current i bytes) =
-    (malformed (Boundary 1 current i) ≡ false)
+    → Enters b × (fieldAt (outcome b .memory .management) (fromEnd b 0x18) 4 ≡ word))
+states (Header registers current i bytes) =
+    Example current i (λ b. (usable (regionBefore b) ≡ true) × (b .machine .registers ≡ registers) × (b .machine .halted ≡ false))
     × ((b : Before current i) → usable (regionBefore b) ≡ true → b .machine .registers ≡ registers → b .machine .halted ≡ false
-    → Enters b × Stores b (below b 0x30) bytes)
+    → Enters b × Stores b (fromEnd b 0x30) bytes)
 
--- P11: "DR7 400h, EFLAGS 202h, CR0 E0000011h, current 1000h, EIP 1002h, CS 0008h FF FF 00 00 00 9B CF 00, level 0, not writable, output of
--- byte FEh to 64h"
+-- the registers that P11 gives
 abbrev pub registersInP11 : Registers
 registersInP11 = record {
   eip = 0x1002;
@@ -123,7 +144,7 @@ registersInP11 = record {
 
 unfoldable pub sheet : List Line
 sheet =
-    -- "Region": SMAR 000384h is 32 KiB at 38000h, 000305h is 64 KiB at 30000h, 000683h is 16 KiB at 68000h
+    -- the three that 01 has under "Region"
     Smar 0x00 0x03 0x84 0x38000 4 0x8000
     ∷ Smar 0x00 0x03 0x05 0x30000 5 0x10000
     ∷ Smar 0x00 0x06 0x83 0x68000 3 0x4000
@@ -169,6 +190,5 @@ sheet =
 abbrev pub rowAt : List Line → ℕ → Line
 rowAt ls k = getD ls k (IsUsable 0 0 false)
 
--- "The P lines are shown to follow from the rules by one proof over one table."
 abbrev pub SheetHolds : Type 0
-SheetHolds = (k : ℕ) → k < length sheet → holds (rowAt sheet k)
+SheetHolds = (k : ℕ) → k < length sheet → states (rowAt sheet k)
