@@ -1,0 +1,74 @@
+// Plays one short trace on memories of several sizes: the edges of what a step takes, and those just beyond them.
+// The trace: a reset, a write of the byte ABh at 0, a read of the byte at 0, and a read of the byte at FFFFFh.
+use libc::STDOUT_FILENO;
+use machine::Machine;
+
+fn show(main_size: usize, management_size: usize) {
+    let trace = [
+        2u8,
+        0,
+        1,
+        0, //
+        11,
+        0,
+        4,
+        0,
+        1,
+        0,
+        0,
+        0,
+        0,
+        0xAB,
+        0,
+        0,
+        0, //
+        7,
+        0,
+        3,
+        0,
+        1,
+        0,
+        0,
+        0,
+        0, //
+        7,
+        0,
+        3,
+        0,
+        1,
+        0xFF,
+        0xFF,
+        0x0F,
+        0,
+    ];
+    let mut main = [0u8; 1048577];
+    let mut management = [0u8; 65537];
+    let m = fields::at_most(main_size, 1048577);
+    let g = fields::at_most(management_size, 65537);
+    let mut out = [0u8; 130006];
+    let size = player::replay(
+        &trace,
+        Machine::initial(),
+        &mut main[0..m],
+        &mut management[0..g],
+        &mut out,
+    );
+    io::write_all(STDOUT_FILENO, &out[..size]);
+}
+
+fn main() {
+    io::write_all(STDOUT_FILENO, b"== main 0\n");
+    show(0, 65536);
+    io::write_all(STDOUT_FILENO, b"== main 1\n");
+    show(1, 65536);
+    io::write_all(STDOUT_FILENO, b"== main 1048576\n");
+    show(1048576, 65536);
+    io::write_all(STDOUT_FILENO, b"== main 1048577\n");
+    show(1048577, 65536);
+    io::write_all(STDOUT_FILENO, b"== management 0\n");
+    show(65536, 0);
+    io::write_all(STDOUT_FILENO, b"== management 65535\n");
+    show(65536, 65535);
+    io::write_all(STDOUT_FILENO, b"== management 65537\n");
+    show(65536, 65537);
+}
