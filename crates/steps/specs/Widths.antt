@@ -24,8 +24,9 @@ InterruptionFits (RepOutput t i) = TransferFits t × (i < 2 ^ 32)
 abbrev pub StepFits : Step → Type 0
 StepFits Reset = Unit {0}
 StepFits (Registers eip eflags cr0 dr7 selector descriptor level writable) =
-    (eip < 2 ^ 32) × (eflags < 2 ^ 32) × (cr0 < 2 ^ 32) × (dr7 < 2 ^ 32) × (selector < 2 ^ 16) × (descriptor < 2 ^ 64)
-    × (level < 2 ^ 8) × (writable < 2 ^ 8)
+    (eip < 2 ^ 32) × (eflags < 2 ^ 32) × (cr0 < 2 ^ 32) × (dr7 < 2 ^ 32)
+    × (selector < 2 ^ 16)
+    × (descriptor < 2 ^ 64) × (level < 2 ^ 8) × (writable < 2 ^ 8)
 StepFits (Read width a) = (width < 2 ^ 8) × (a < 2 ^ 32)
 StepFits (Write width a v) = (width < 2 ^ 8) × (a < 2 ^ 32) × (v < 2 ^ 32)
 StepFits (PortRead port) = port < 2 ^ 16
