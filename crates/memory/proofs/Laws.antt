@@ -1,4 +1,5 @@
--- Laws of the memories, over any window, address and count. Assumes nothing.
+-- Laws of the memories, over any window, address and count. A law of one of the two memories is over which it is: t says that it is
+-- management memory. Assumes nothing.
 use mathlib.Core.Path.{_≡_, refl, sym, ap, _∙_}
 use mathlib.Core.Bool.{Bool, true, false, not, _&&_}
 use mathlib.Core.List.{List}
@@ -9,47 +10,57 @@ use lib.ListN.{List·getD-eq-default, length, getD, set}
 use borrow.Author.Tests.{le-ltb, lt-leb}
 use Rattle.region.specs.Region.{within}
 use Rattle.region.specs.declared.Region.{Region}
+use Rattle.region.proofs.Laws.{within-has}
 use Rattle.fields.specs.Fields.{fieldAt, bytesOf}
 use Rattle.fields.proofs.Laws.{number-same}
 use Rattle.steps.specs.declared.Answer.the-variants.{Done, Value}
 use Rattle.memory.specs.declared.Segment.{Segment}
-use Rattle.memory.specs.declared.Route.the-variants.{Main, Management}
-use Rattle.memory.specs.Route.{Each, Routed}
-use Rattle.memory.specs.Memory.{Memories, memories, byteAt, storeByte, absent, allThere, load, storeBytes, store, storeSegment, reaches, reads, writes}
+use Rattle.memory.specs.Route.{Each, Together}
+use Rattle.memory.specs.Memory.{Memories, memories, cellOf, byteAt, storeByte, absent, allThere, load, storeBytes, store, storeSegment, reaches, reads, writes}
+
+-- the memories of which l is the one, and o the other
+abbrev pub memoriesBy : Bool → List ℕ → List ℕ → Memories
+memoriesBy true l o = memories o l
+memoriesBy false l o = memories l o
+
+-- an address's number in it
+abbrev pub place : Bool → Region → ℕ → ℕ
+place true w a = a - w .base
+place false w a = a
 
 up : (n : ℕ) → 0 < n → n ≡ suc (n - 1)
 up n h = omega arith
 
 -- ---- one byte
 
-module _ (w : Region) (x : Memories) (a : ℕ) where
-  pub byte-in : within w a ≡ true → byteAt w x a ≡ getD (x .management) (a - w .base) 0
-  unfolding byteAt
-  byte-in e = rw e
+module _ (w : Region) (a : ℕ) where
+  pub byte-of : (t : Bool) (l o : List ℕ) → within w a ≡ t → byteAt w (memoriesBy t l o) a ≡ getD l (place t w a) 0
+  unfolding byteAt cellOf
+  byte-of true l o e = rw e
+  byte-of false l o e = rw e
 
-  pub byte-out : within w a ≡ false → byteAt w x a ≡ getD (x .main) a 0
-  unfolding byteAt
-  byte-out e = rw e
+  pub store-of : (t : Bool) (l o : List ℕ) (b : ℕ) → within w a ≡ t
+      → storeByte w (memoriesBy t l o) a b ≡ memoriesBy t (set l (place t w a) b) o
+  unfolding storeByte cellOf
+  store-of true l o b e = rw e
+  store-of false l o b e = rw e
 
-  pub byte-in-beyond : within w a ≡ true → length (x .management) ≤ a - w .base → byteAt w x a ≡ 0
-  byte-in-beyond e h = byte-in e ∙ List·getD-eq-default (x .management) 0 h
+  -- past its end
+  module _ (t : Bool) (l o : List ℕ) (e : within w a ≡ t) (h : length l ≤ place t w a) where
+    pub byte-beyond : byteAt w (memoriesBy t l o) a ≡ 0
+    byte-beyond = byte-of t l o e ∙ List·getD-eq-default l 0 h
 
-  pub byte-out-beyond : within w a ≡ false → length (x .main) ≤ a → byteAt w x a ≡ 0
-  byte-out-beyond e h = byte-out e ∙ List·getD-eq-default (x .main) 0 h
+    pub store-beyond : (b : ℕ) → storeByte w (memoriesBy t l o) a b ≡ memoriesBy t l o
+    store-beyond b = store-of t l o b e ∙ ap (λ (k : List ℕ). memoriesBy t k o) (set-out l (place t w a) b h)
 
-  pub store-in : (b : ℕ) → within w a ≡ true → storeByte w x a b ≡ memories (x .main) (set (x .management) (a - w .base) b)
-  unfolding storeByte
-  store-in b e = rw e
+  place-on : (t : Bool) (i : ℕ) → within w a ≡ t → place t w (a + i) ≡ place t w a + i
+  place-on true i e = omega (arith, within-has w a e .low)
+  place-on false i e = refl
 
-  pub store-out : (b : ℕ) → within w a ≡ false → storeByte w x a b ≡ memories (set (x .main) a b) (x .management)
-  unfolding storeByte
-  store-out b e = rw e
-
-  pub store-in-beyond : (b : ℕ) → within w a ≡ true → length (x .management) ≤ a - w .base → storeByte w x a b ≡ x
-  store-in-beyond b e h = store-in b e ∙ ap (memories (x .main)) (set-out (x .management) (a - w .base) b h)
-
-  pub store-out-beyond : (b : ℕ) → within w a ≡ false → length (x .main) ≤ a → storeByte w x a b ≡ x
-  store-out-beyond b e h = store-out b e ∙ ap (λ (l : List ℕ). memories l (x .management)) (set-out (x .main) a b h)
+  there-of : (t : Bool) (end : ℕ) → a ≤ 0xffffffff → (t ≡ false → a < end) → within w a ≡ t → absent w end a ≡ false
+  unfolding absent
+  there-of true end m l e = simp (le-ltb 0xffffffff a m, e)
+  there-of false end m l e = simp (le-ltb 0xffffffff a m, e, lt-leb end a (l refl))
 
 -- ---- whether all bytes are there
 
@@ -98,81 +109,45 @@ module _ (w : Region) (t : Bool) where
   each-next : (a n : ℕ) → Each w a (suc n) t → Each w (a + 1) n t
   each-next a n h k l m = h k (omega arith) (omega arith)
 
-module _ (w : Region) where
-  there-in : (end a n : ℕ) → a + n ≤ 4294967296 → Each w a n true → allThere w end a n ≡ true
-  unfolding allThere absent
-  there-in end a zero m h = refl
-  there-in end a (suc n) m h =
-      simp (le-ltb 0xffffffff a (omega arith), each-first w true a n h) (there-in end (a + 1) n (omega arith) (each-next w true a n h))
+  there-all : (end a n : ℕ) → Each w a n t → (t ≡ false → a + n ≤ end) → a + n ≤ 4294967296 → allThere w end a n ≡ true
+  unfolding allThere
+  there-all end a zero h l m = refl
+  there-all end a (suc n) h l m =
+      rw (there-of w a t end (omega arith) (λ e. omega (arith, l e)) (each-first a n h))
+      (there-all end (a + 1) n (each-next a n h) (λ e. omega (arith, l e)) (omega arith))
 
-  there-out : (end a n : ℕ) → a + n ≤ 4294967296 → a + n ≤ end → Each w a n false → allThere w end a n ≡ true
-  unfolding allThere absent
-  there-out end a zero m l h = refl
-  there-out end a (suc n) m l h =
-      simp (le-ltb 0xffffffff a (omega arith), each-first w false a n h, lt-leb end a (omega arith))
-      (there-out end (a + 1) n (omega arith) (omega arith) (each-next w false a n h))
+  pub load-of : (l o : List ℕ) (a n : ℕ) → Each w a n t → load w (memoriesBy t l o) a n ≡ fieldAt l (place t w a) n
+  load-of l o a n h =
+      number-same _ _ a (place t w a) n
+      (λ i m. byte-of w (a + i) t l o (h (a + i) (omega arith) (omega arith))
+      ∙ ap (λ (k : ℕ). getD l k 0) (place-on w a t i (h a (omega arith) (omega arith))))
 
-  load-in : (x : Memories) (a n : ℕ) → w .base ≤ a → Each w a n true → load w x a n ≡ fieldAt (x .management) (a - w .base) n
-  load-in x a n l h =
-      number-same _ _ a (a - w .base) n
-      (λ i m. byte-in w x (a + i) (h (a + i) (omega arith) (omega arith))
-      ∙ ap (λ (k : ℕ). getD (x .management) k 0) (let e : a + i - w .base ≡ a - w .base + i = omega arith in e))
-
-  pub load-out : (x : Memories) (a n : ℕ) → Each w a n false → load w x a n ≡ fieldAt (x .main) a n
-  load-out x a n h = number-same _ _ a a n (λ i m. byte-out w x (a + i) (h (a + i) (omega arith) (omega arith)))
-
-  store-all-in : (x : Memories) (a n v : ℕ) → w .base ≤ a → Each w a n true
-      → store w x a n v ≡ memories (x .main) (sets (x .management) (a - w .base) (bytesOf n v))
+  pub store-all-of : (l o : List ℕ) (a n v : ℕ) → Each w a n t
+      → store w (memoriesBy t l o) a n v ≡ memoriesBy t (sets l (place t w a) (bytesOf n v)) o
   unfolding storeBytes bytesOf
-  store-all-in x a zero v l h = refl
-  store-all-in x a (suc n) v l h =
-      let k : a + 1 - w .base ≡ suc (a - w .base) = omega arith in
-      let y = set (x .management) (a - w .base) (v % 256) in
-      ap (λ (z : Memories). store w z (a + 1) n (v / 256)) (store-in w x a (v % 256) (each-first w true a n h))
-      ∙ store-all-in (memories (x .main) y) (a + 1) n (v / 256) (omega arith) (each-next w true a n h)
-      ∙ ap (λ (j : ℕ). memories (x .main) (sets y j (bytesOf n (v / 256)))) k
-
-  pub store-all-out : (x : Memories) (a n v : ℕ) → Each w a n false
-      → store w x a n v ≡ memories (sets (x .main) a (bytesOf n v)) (x .management)
-  unfolding storeBytes bytesOf
-  store-all-out x a zero v h = refl
-  store-all-out x a (suc n) v h =
-      let k : a + 1 ≡ suc a = omega arith in
-      let y = set (x .main) a (v % 256) in
-      ap (λ (z : Memories). store w z (a + 1) n (v / 256)) (store-out w x a (v % 256) (each-first w false a n h))
-      ∙ store-all-out (memories y (x .management)) (a + 1) n (v / 256) (each-next w false a n h)
-      ∙ ap (λ (j : ℕ). memories (sets y j (bytesOf n (v / 256))) (x .management)) k
+  store-all-of l o a zero v h = refl
+  store-all-of l o a (suc n) v h =
+      let e = each-first a n h in
+      let k : place t w (a + 1) ≡ suc (place t w a) = omega (arith, place-on w a t 1 e) in
+      let y = set l (place t w a) (v % 256) in
+      ap (λ (z : Memories). store w z (a + 1) n (v / 256)) (store-of w a t l o (v % 256) e)
+      ∙ store-all-of y o (a + 1) n (v / 256) (each-next a n h)
+      ∙ ap (λ (j : ℕ). memoriesBy t (sets y j (bytesOf n (v / 256))) o) k
 
 -- ---- all or nothing
 
-module _ (w : Region) (x : Memories) (a : ℕ) where
-  read-there : (n k v : ℕ) → k ≡ n → allThere w (length (x .main)) a k ≡ true → v ≡ load w x a k → Value v ≡ reads w x a n
+module _ (w : Region) (a : ℕ) (t : Bool) (l o : List ℕ) where
+  -- a read of n bytes, where the code takes k
+  pub read-whole : (n k v : ℕ) → k ≡ min n 4 → Together w (length (memoriesBy t l o .main)) a k t
+      → v ≡ fieldAt l (place t w a) (min k 8) → Value v ≡ reads w (memoriesBy t l o) a (min n 4)
   unfolding reads
-  read-there n k v e t l = rw (sym e, t, l)
-
-  pub read-main : (n k v : ℕ) → k ≡ n → k ≤ 4 → Routed w (length (x .main)) a k Main → v ≡ fieldAt (x .main) a (min k 8) → Value v ≡ reads w x a n
-  read-main n k v e l r f =
+  read-whole n k v e r f =
       let m : min k 8 ≡ k = omega arith in
-      read-there n k v e (there-out w (length (x .main)) a k (r .0) (r .1) (r .2)) (f ∙ ap (fieldAt (x .main) a) m ∙ sym (load-out w x a k (r .2)))
+      rw (sym e, there-all w t _ a k (r .each) (r .inside) (r .below))
+      (ap Value (f ∙ ap (fieldAt l (place t w a)) m ∙ sym (load-of w t l o a k (r .each))))
 
-  pub read-management : (n k v : ℕ) → k ≡ n → k ≤ 4 → Routed w (length (x .main)) a k Management
-      → v ≡ fieldAt (x .management) (a - w .base) (min k 8) → Value v ≡ reads w x a n
-  read-management n k v e l r f =
-      let m : min k 8 ≡ k = omega arith in
-      read-there n k v e (there-in w (length (x .main)) a k (r .0) (r .2)) (f ∙ ap (fieldAt (x .management) (a - w .base)) m ∙ sym (load-in w x a k (r .1) (r .2)))
-
-  written : (y : Memories) (n v : ℕ) → allThere w (length (x .main)) a n ≡ true → y ≡ store w x a n v → reaches Done y ≡ writes w x a n v
+  pub written-whole : (p : List ℕ) (n v : ℕ) → Together w (length (memoriesBy t l o .main)) a n t
+      → p ≡ sets l (place t w a) (bytesOf n v) → reaches Done (memoriesBy t p o) ≡ writes w (memoriesBy t l o) a n v
   unfolding writes
-  written y n v t e = rw (t, e)
-
-  pub written-main : (l : List ℕ) (n v : ℕ) → Routed w (length (x .main)) a n Main → l ≡ sets (x .main) a (bytesOf n v)
-      → reaches Done (memories l (x .management)) ≡ writes w x a n v
-  written-main l n v r e =
-      written _ n v (there-out w (length (x .main)) a n (r .0) (r .1) (r .2))
-      (ap (λ (z : List ℕ). memories z (x .management)) e ∙ sym (store-all-out w x a n v (r .2)))
-
-  pub written-management : (l : List ℕ) (n v : ℕ) → Routed w (length (x .main)) a n Management
-      → l ≡ sets (x .management) (a - w .base) (bytesOf n v) → reaches Done (memories (x .main) l) ≡ writes w x a n v
-  written-management l n v r e =
-      written _ n v (there-in w (length (x .main)) a n (r .0) (r .2))
-      (ap (memories (x .main)) e ∙ sym (store-all-in w x a n v (r .1) (r .2)))
+  written-whole p n v r e =
+      rw (there-all w t _ a n (r .each) (r .inside) (r .below), e) (ap (reaches Done) (sym (store-all-of w t l o a n v (r .each))))

@@ -11,8 +11,15 @@ use Rattle.memory.specs.declared.Route.the-variants.{Main, Management, B
 abbrev pub Each : Region → ℕ → ℕ → Bool → Type 0
 Each w a n t = (k : ℕ) → a ≤ k → k < a + n → within w k ≡ t
 
--- what a route says of n bytes from a on: they are there, and all in one memory. Bytewise says nothing. end is main memory's length.
+-- n bytes from a on are there and all in one memory: management memory where t holds, and else main memory, whose length is end
+pub record Together (w : Region) (end a n : ℕ) (t : Bool) : Type 0 where
+  pub each : Each w a n t
+  pub from : t ≡ true → w .base ≤ a
+  pub inside : t ≡ false → a + n ≤ end
+  pub below : a + n ≤ 4294967296
+
+-- what a route says of them; bytewise says nothing
 abbrev pub Routed : Region → ℕ → ℕ → ℕ → Route → Type 0
-Routed w end a n Main = (a + n ≤ 4294967296) × (a + n ≤ end) × Each w a n false
-Routed w end a n Management = (a + n ≤ 4294967296) × (w .base ≤ a) × Each w a n true
+Routed w end a n Main = Together w end a n false
+Routed w end a n Management = Together w end a n true
 Routed w end a n Bytewise = Unit

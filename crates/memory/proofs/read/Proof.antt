@@ -1,14 +1,18 @@
-use Prim.Native.Nat.{min}
-use mathlib.Core.Path.{sym}
-use native.Mathlib.Omega.{arith}
-use Rattle.memory.proofs.Laws.{read-main, read-management}
+use Rattle.memory.proofs.Laws.{read-whole}
 use Rattle.fields.proofs.Laws.{fits}
+use native.Mathlib.Omega.{arith}
+use mathlib.Core.Path.{refl, sym}
+use mathlib.Core.Bool.{true, false}
+use Prim.Native.Nat.{min}
 use borrow.Author.Needs.{needs}
 use Rattle.memory.proofs.read.Statement.{statement}
 use Rattle.memory.proofs.read.Tie as tie
 
-at-most-four-requires : tie.Need-at-most-four-requires
-at-most-four-requires c κs = search needs
+at-most-requires : tie.Need-at-most-requires
+at-most-requires c κs = search needs
+
+cast-count : tie.Need-cast-count
+cast-count c = search needs
 
 route-of-requires : tie.Need-route-of-requires
 route-of-requires c κs = search needs
@@ -19,16 +23,14 @@ enum-told c = search needs
 number-at-requires : tie.Need-number-at-requires
 number-at-requires c κs = search needs
 
-cast-t14 : tie.Need-cast-t14
-cast-t14 c =
-    let n = c .before .before .before .before .at-most-four in
-    omega (arith, fits (c .number-at .result) (min (n .result) 8) 4 (omega (arith, n .ensures .1)) (c .number-at .ensures .1))
+cast-t15 : tie.Need-cast-t15
+cast-t15 c = omega (arith, fits (c .number-at .result) (min (c .before .before .before .before .at-most .result) 8) 4 (omega arith) (c .number-at .ensures .1))
 
 enum-told-2 : tie.Need-enum-told-2
 enum-told-2 c = search needs
 
 sub-k : tie.Need-sub-k
-sub-k c = let r = rw (c .before .enum-told2 .given .1) at (c .before .before .before .route-of .ensures) in r .1
+sub-k c = let r = rw (c .before .enum-told2 .given .1) at (c .before .before .before .route-of .ensures) in r .from refl
 
 cast-k : tie.Need-cast-k
 cast-k c = search needs
@@ -36,10 +38,8 @@ cast-k c = search needs
 number-at-requires-2 : tie.Need-number-at-requires-2
 number-at-requires-2 c κs = search needs
 
-cast-t15 : tie.Need-cast-t15
-cast-t15 c =
-    let n = c .before .before .before .before .before .at-most-four in
-    omega (arith, fits (c .number-at2 .result) (min (n .result) 8) 4 (omega (arith, n .ensures .1)) (c .number-at2 .ensures .1))
+cast-t16 : tie.Need-cast-t16
+cast-t16 c = omega (arith, fits (c .number-at2 .result) (min (c .before .before .before .before .before .at-most .result) 8) 4 (omega arith) (c .number-at2 .ensures .1))
 
 enum-told-3 : tie.Need-enum-told-3
 enum-told-3 c = search needs
@@ -48,28 +48,29 @@ read-bytewise-requires : tie.Need-read-bytewise-requires
 read-bytewise-requires c κs = search needs
 
 returns : tie.Need-returns
-returns c = read-main _ _ _ _ _ _ (c .before .before .before .before .at-most-four .ensures .0) (c .before .before .before .before .at-most-four .ensures .1) (rw (c .before .enum-told .given .1) at (c .before .before .before .route-of .ensures)) (c .number-at .ensures .0)
+returns c = read-whole _ _ false _ _ _ _ _ (c .before .before .before .before .at-most .ensures) (rw (c .before .enum-told .given .1) at (c .before .before .before .route-of .ensures)) (c .number-at .ensures .0)
 
 returns-2 : tie.Need-returns-2
-returns-2 c = read-management _ _ _ _ _ _ (c .before .before .before .before .before .at-most-four .ensures .0) (c .before .before .before .before .before .at-most-four .ensures .1) (rw (c .before .before .enum-told2 .given .1) at (c .before .before .before .before .route-of .ensures)) (c .number-at2 .ensures .0)
+returns-2 c = read-whole _ _ true _ _ _ _ _ (c .before .before .before .before .before .at-most .ensures) (rw (c .before .before .enum-told2 .given .1) at (c .before .before .before .before .route-of .ensures)) (c .number-at2 .ensures .0)
 
 returns-3 : tie.Need-returns-3
-returns-3 c = rw (sym (c .before .before .before .before .at-most-four .ensures .0)) (c .read-bytewise .ensures)
+returns-3 c = rw (sym (c .before .before .before .before .at-most .ensures)) (c .read-bytewise .ensures)
 
 pub read-spec : {M : Type 1} → statement M
 read-spec =
     tie.close
     (tie.spec
-    at-most-four-requires
+    at-most-requires
+    cast-count
     route-of-requires
     enum-told
     number-at-requires
-    cast-t14
+    cast-t15
     enum-told-2
     sub-k
     cast-k
     number-at-requires-2
-    cast-t15
+    cast-t16
     enum-told-3
     read-bytewise-requires
     returns

@@ -1,5 +1,6 @@
 use Rattle.region.proofs.Laws.{within-has}
-use Rattle.memory.proofs.Laws.{store-in, store-out, store-in-beyond, store-out-beyond}
+use Rattle.memory.proofs.Laws.{store-of, store-beyond}
+use mathlib.Core.Bool.{true, false}
 use mathlib.Core.Path.{sym, _∙_}
 use borrow.Author.Needs.{needs}
 use Rattle.memory.proofs.store_byte.Statement.{statement}
@@ -21,10 +22,10 @@ same-length : tie.Need-same-length
 same-length c = search needs
 
 returns : tie.Need-returns
-returns c = sym (store-in _ _ _ _ (sym (c .before .before .before .contains .ensures) ∙ c .before .before .if1 .taken))
+returns c = sym (store-of _ _ true _ _ _ (sym (c .before .before .before .contains .ensures) ∙ c .before .before .if1 .taken))
 
 returns-2 : tie.Need-returns-2
-returns-2 c = sym (store-in-beyond _ _ _ _ (sym (c .before .before .before .contains .ensures) ∙ c .before .before .if1 .taken) (c .if2 .left))
+returns-2 c = sym (store-beyond _ _ true _ _ (sym (c .before .before .before .contains .ensures) ∙ c .before .before .if1 .taken) (c .if2 .left) _)
 
 slice-write-main : tie.Need-slice-write-main
 slice-write-main c = search needs
@@ -33,10 +34,10 @@ same-length-2 : tie.Need-same-length-2
 same-length-2 c = search needs
 
 returns-3 : tie.Need-returns-3
-returns-3 c = sym (store-out _ _ _ _ (sym (c .before .before .contains .ensures) ∙ c .before .if1 .left))
+returns-3 c = sym (store-of _ _ false _ _ _ (sym (c .before .before .contains .ensures) ∙ c .before .if1 .left))
 
 returns-4 : tie.Need-returns-4
-returns-4 c = sym (store-out-beyond _ _ _ _ (sym (c .before .before .contains .ensures) ∙ c .before .if1 .left) (c .if3 .left))
+returns-4 c = sym (store-beyond _ _ false _ _ (sym (c .before .before .contains .ensures) ∙ c .before .if1 .left) (c .if3 .left) _)
 
 pub store-byte-spec : {M : Type 1} → statement M
 store-byte-spec =

@@ -1,4 +1,6 @@
-use Rattle.memory.proofs.Laws.{written-main, written-management}
+use Rattle.memory.proofs.Laws.{written-whole}
+use mathlib.Core.Bool.{true, false}
+use mathlib.Core.Path.{refl}
 use borrow.Author.Needs.{needs}
 use Rattle.memory.proofs.write.Statement.{statement}
 use Rattle.memory.proofs.write.Tie as tie
@@ -16,7 +18,7 @@ enum-told-2 : tie.Need-enum-told-2
 enum-told-2 c = search needs
 
 sub-k : tie.Need-sub-k
-sub-k c = let r = rw (c .before .enum-told2 .given .1) at (c .before .before .before .route-of .ensures) in r .1
+sub-k c = let r = rw (c .before .enum-told2 .given .1) at (c .before .before .before .route-of .ensures) in r .from refl
 
 cast-k : tie.Need-cast-k
 cast-k c = search needs
@@ -34,13 +36,13 @@ same-length : tie.Need-same-length
 same-length c = search needs
 
 returns : tie.Need-returns
-returns c = written-main _ _ _ _ _ _ (rw (c .before .before .before .before .enum-told .given .1) at (c .before .before .before .before .before .before .route-of .ensures)) (c .before .before .store-at .ensures)
+returns c = written-whole _ _ false _ _ _ _ _ (rw (c .before .before .before .before .enum-told .given .1) at (c .before .before .before .before .before .before .route-of .ensures)) (c .before .before .store-at .ensures)
 
 same-length-2 : tie.Need-same-length-2
 same-length-2 c = search needs
 
 returns-2 : tie.Need-returns-2
-returns-2 c = written-management _ _ _ _ _ _ (rw (c .before .before .before .before .before .enum-told2 .given .1) at (c .before .before .before .before .before .before .before .route-of .ensures)) (c .before .before .store-at2 .ensures)
+returns-2 c = written-whole _ _ true _ _ _ _ _ (rw (c .before .before .before .before .before .enum-told2 .given .1) at (c .before .before .before .before .before .before .before .route-of .ensures)) (c .before .before .store-at2 .ensures)
 
 same-length-3 : tie.Need-same-length-3
 same-length-3 c = search needs
