@@ -1,6 +1,6 @@
 -- 01, "Boundary" and "Forty-eight bytes below the top": entry to management mode, and the way back by RSM.
 use Prim.Native.Nat.{ℕ}
-use mathlib.Core.Bool.{Bool, true, false, cond, _||_}
+use mathlib.Core.Bool.{Bool, true, false, cond, not, _&&_, _||_}
 use mathlib.Core.List.{List}
 use Rattle.memory.specs.Memory.{Memories, memories}
 use Rattle.steps.specs.declared.Interruption.{Interruption}
@@ -14,7 +14,7 @@ use Rattle.header.specs.Entry.{entryRegisters}
 use Rattle.machine.specs.declared.Machine.{Machine}
 use Rattle.machine.specs.declared.Stepped.{Stepped}
 use Rattle.machine.specs.Machines.{machine, withLatched}
-use Rattle.machine.specs.Outcomes.{Outcome, gives, ends, refused}
+use Rattle.machine.specs.Outcomes.{Outcome, gives, ends}
 
 abbrev pub settingsOf : Machine → Settings
 settingsOf m = m .config .settings
@@ -59,15 +59,16 @@ entryAtBoundary m x current i = entry m x (savedAtBoundary m current i) false
 abbrev pub entryBySmint : Machine → Memories → ℕ → Outcome
 entryBySmint m x next = entry m x (savedBySmint m next) (m .latched)
 
--- Inside the mode an asserted SMI is latched. Outside, where SMIs are enabled, one that is asserted or latched enters; where they are not,
--- one that is asserted is ignored, and the latch is kept. Otherwise a boundary does nothing.
+-- A boundary outside the mode takes an SMI that is asserted or latched, where SMIs are enabled: so a latched one waits for that.
+unfoldable pub taken : Machine → Bool → Bool
+taken m asserted = not (m .inside) && enabled (settingsOf m) && (asserted || m .latched)
+
+-- What a boundary does that takes none: an asserted SMI is latched inside the mode, and ignored outside it, where the latch is kept.
+unfoldable pub passed : Machine → Bool → Stepped
+passed m asserted = cond asserted (cond (m .inside) (gives (withLatched m true) Latched) (gives m Ignored)) (gives m Nothing)
+
 unfoldable pub boundaryStep : Machine → Memories → Bool → ℕ → Interruption → Outcome
-boundaryStep m x asserted current i =
-    cond (m .inside)
-    (cond asserted (ends (gives (withLatched m true) Latched) x) (ends (gives m Nothing) x))
-    (cond (enabled (settingsOf m))
-    (cond (asserted || m .latched) (entryAtBoundary m x current i) (ends (gives m Nothing) x))
-    (ends (gives m (cond asserted Ignored Nothing)) x))
+boundaryStep m x asserted current i = cond (taken m asserted) (entryAtBoundary m x current i) (ends (passed m asserted) x)
 
 -- RSM loads the registers from the header, and leaves the mode with the machine awake.
 unfoldable pub resume : Machine → List ℕ → Stepped

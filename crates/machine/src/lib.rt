@@ -7,7 +7,7 @@ ghost use Rattle.memory.specs.Memory.{memories};
 ghost use Rattle.steps.specs.Steps.{isWidth, malformed};
 ghost use Rattle.machine.specs.Machines.{withRegisters, withHalted, withLatched, withSegments, segmentIn, withSegment, segment, resetMachine};
 ghost use Rattle.machine.specs.Outcomes.{gives, ends};
-ghost use Rattle.machine.specs.Service.{enteredMachine, entry, entryAtBoundary, entryBySmint, boundaryStep, resume};
+ghost use Rattle.machine.specs.Service.{enteredMachine, entry, entryAtBoundary, entryBySmint, taken, passed, boundaryStep, resume};
 ghost use Rattle.machine.specs.Widths.{MachineFits};
 ghost use Rattle.machine.specs.Steps.{window, resetStep, registersStep, readStep, writeStep, portStep, portReadStep, portWriteStep, haltStep, wakeStep, permitted, valid, advanced, saved, restored, operated, opcodeStep, performed, stepped};
 use config::Accessed;
@@ -309,6 +309,34 @@ impl Machine {
         self.enter(management, saved, false)
     }
 
+    // Whether a boundary takes an SMI.
+    fn is_taken(self, asserted: bool) -> bool
+        ensures { λ r. ⌜ r ≡ taken self asserted ⌝ }
+    {
+        if self.inside {
+            return false;
+        }
+        let config = self.config;
+        let settings = config.settings;
+        if settings.enables_smi() {
+            return any(asserted, self.latched);
+        }
+        false
+    }
+
+    // A boundary that takes none.
+    fn pass(self, asserted: bool) -> Stepped
+        ensures { λ r. ⌜ r ≡ passed self asserted ⌝ }
+    {
+        if asserted {
+            if self.inside {
+                return self.with_latched(true).answers(Answer::Latched);
+            }
+            return self.answers(Answer::Ignored);
+        }
+        self.answers(Answer::Nothing)
+    }
+
     // SMINT, which keeps the latch.
     fn enter_by_smint(self, management: &mut [u8], next: u32) -> Stepped
         ensures { λ r. ⌜ ((main : List ℕ) → ends r (memories main (now (management .exit)))
@@ -559,24 +587,10 @@ impl Machine {
             ≡ boundaryStep self (memories main (now (management .entry))) (eqb smi 1) current interruption) ⌝ }
     {
         let asserted = smi == 1;
-        if self.inside {
-            if asserted {
-                return self.with_latched(true).answers(Answer::Latched);
-            }
-            return self.answers(Answer::Nothing);
+        if self.is_taken(asserted) {
+            return self.enter_at_boundary(management, current, interruption);
         }
-        let config = self.config;
-        let settings = config.settings;
-        if settings.enables_smi() {
-            if any(asserted, self.latched) {
-                return self.enter_at_boundary(management, current, interruption);
-            }
-            return self.answers(Answer::Nothing);
-        }
-        if asserted {
-            return self.answers(Answer::Ignored);
-        }
-        self.answers(Answer::Nothing)
+        self.pass(asserted)
     }
 
     fn halt(self) -> Stepped
