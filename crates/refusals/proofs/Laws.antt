@@ -1,75 +1,67 @@
--- What follows from a reply. Assumes nothing.
+-- What follows from the first refusal. Assumes nothing.
 use mathlib.Core.Path.{_≡_, refl, sym, ap, _∙_}
-use mathlib.Core.Bool.{Bool, true, false, not, _&&_, _||_, true≢false}
-use Prim.Native.Nat.{ℕ, min}
-use lib.Dec.{eqb}
+use mathlib.Core.Bool.{Bool, true, false, cond, not, _&&_, _||_, and-eq-true-iff, Bool·not-not}
+use Prim.Native.Nat.{ℕ}
+use native.Mathlib.Omega.{arith}
+use lib.Dec.{leb, eqb}
+use lib.ListN.{length}
 use borrow.Author.Tests.{eqb-true}
-use Rattle.region.specs.declared.Region.{Region}
-use Rattle.memory.specs.Memory.{Memories, reads}
+use Rattle.memory.specs.Memory.{Memories}
 use Rattle.steps.specs.declared.Answer.{Answer}
+use Rattle.steps.specs.declared.Answer.the-variants.{WrongSize, Malformed, WhileHalted}
 use Rattle.steps.specs.declared.Step.{Step}
-use Rattle.steps.specs.declared.Step.the-variants.{Read}
-use Rattle.steps.specs.Steps.{isWidth, malformed, interrupts}
-use Rattle.access.specs.declared.Reply.{Reply}
-use Rattle.access.specs.declared.Reply.the-variants.{Answered, Deferred}
-use Rattle.access.specs.Access.{wrongSizes, malformedOn, programWhileHalted, refusing, replies, accessReply}
+use Rattle.steps.specs.Steps.{malformed}
+use Rattle.refusals.specs.declared.Verdict.{Verdict}
+use Rattle.refusals.specs.declared.Verdict.the-variants.{Refused, Allowed}
+use Rattle.refusals.specs.Refusals.{largestMain, managementSize, wrongSizes, malformedOn, programWhileHalted, firstRefusal}
 
--- what an answer makes, or else the rest
-abbrev pub byReply : {A : Type 0} → (Answer → A) → A → Reply → A
-byReply f rest (Answered a) = f a
-byReply f rest Deferred = rest
+-- what the sizes are where they are not wrong
+pub record Sized (x : Memories) : Type 0 where
+  pub main-fits : leb (length (x .main)) largestMain ≡ true
+  pub management-whole : length (x .management) ≡ managementSize
 
-abbrev pub isDeferred : Reply → Bool
-isDeferred (Answered a) = false
-isDeferred Deferred = true
+pub sizes : (x : Memories) → wrongSizes x ≡ false → Sized x
+unfolding wrongSizes
+sizes x e =
+    let both = leb (length (x .main)) largestMain && eqb (length (x .management)) managementSize in
+    let p = and-eq-true-iff _ _ .0 (sym (Bool·not-not both) ∙ ap not e) in
+    record { main-fits = p .0; management-whole = eqb-true _ managementSize (p .1) }
+
+-- no refusal is called for
+pub record Taken (halted : Bool) (x : Memories) (s : Step) : Type 0 where
+  pub sizes : wrongSizes x ≡ false
+  pub formed : malformedOn halted s ≡ false
+  pub awake : programWhileHalted halted s ≡ false
 
 module _ (halted : Bool) (x : Memories) (s : Step) where
-  -- whatever a refusal makes goes by the reply alone
-  pub refusing-by : {A : Type 0} (f : Answer → A) (rest : A) (r : Reply) → r ≡ refusing Answered halted x s Deferred
-      → refusing f halted x s rest ≡ byReply f rest r
-  refusing-by {A} f rest r e =
-      go (wrongSizes x) refl (malformedOn halted s) refl (programWhileHalted halted s) refl ∙ ap (byReply f rest) (sym e)
+  -- what holds of each verdict, where it is called for, holds of the first
+  pub by-verdict : (P : Verdict → Type 0) → (wrongSizes x ≡ true → P (Refused WrongSize)) → (malformedOn halted s ≡ true → P (Refused Malformed))
+      → (programWhileHalted halted s ≡ true → P (Refused WhileHalted)) → (Taken halted x s → P Allowed) → P (firstRefusal halted x s)
+  unfolding firstRefusal
+  by-verdict P size form halt take = go (wrongSizes x) refl (malformedOn halted s) refl (programWhileHalted halted s) refl
     where
-      go : (p : Bool) → wrongSizes x ≡ p → (q : Bool) → malformedOn halted s ≡ q → (t : Bool) → programWhileHalted halted s ≡ t
-          → refusing f halted x s rest ≡ byReply f rest (refusing Answered halted x s Deferred)
-      go true a q b t c = rw a
-      go false a true b t c = rw (a, b)
-      go false a false b true c = rw (a, b, c)
-      go false a false b false c = rw (a, b, c)
+      go : (p : Bool) → wrongSizes x ≡ p → (q : Bool) → malformedOn halted s ≡ q → (r : Bool) → programWhileHalted halted s ≡ r
+          → P (cond p (Refused WrongSize) (cond q (Refused Malformed) (cond r (Refused WhileHalted) Allowed)))
+      go true a q b r c = size a
+      go false a true b r c = form b
+      go false a false b true c = halt c
+      go false a false b false c = take (record { sizes = a; formed = b; awake = c })
 
-  -- a step that is left open is well formed
-  pub deferred-well-formed : (r : Reply) → r ≡ refusing Answered halted x s Deferred → r ≡ Deferred → malformed s ≡ false
+  pub allowed-taken : firstRefusal halted x s ≡ Allowed → Taken halted x s
+  allowed-taken = by-verdict (λ v. v ≡ Allowed → Taken halted x s) (λ _. not-refused WrongSize) (λ _. not-refused Malformed) (λ _. not-refused WhileHalted) (λ t _. t)
+    where
+      not-refused : (a : Answer) → Refused a ≡ Allowed → Taken halted x s
+      not-refused a e = let z : _≡_ {A = ℕ} 0 1 = cc in absurd (omega arith)
+
+  pub taken-allowed : Taken halted x s → firstRefusal halted x s ≡ Allowed
+  unfolding firstRefusal
+  taken-allowed t = rw (t .sizes, t .formed, t .awake)
+
+  -- a step that is allowed is well formed in itself
+  pub allowed-formed : firstRefusal halted x s ≡ Allowed → malformed s ≡ false
   unfolding malformedOn
-  deferred-well-formed r e o = go (wrongSizes x) refl (malformedOn halted s) refl (sym o ∙ e)
+  allowed-formed e = first (malformed s) _ (allowed-taken e .formed)
     where
       first : (p q : Bool) → (p || q) ≡ false → p ≡ false
       first true q h = h
       first false q h = refl
-
-      go : (p : Bool) → wrongSizes x ≡ p → (q : Bool) → malformedOn halted s ≡ q → Deferred ≡ refusing Answered halted x s Deferred → malformed s ≡ false
-      go true a q b h = absurd (true≢false (ap isDeferred (rw a at h)))
-      go false a true b h = absurd (true≢false (ap isDeferred (rw (a, b) at h)))
-      go false a false b h = first (malformed s) (halted && interrupts s) b
-
-  -- what a refusal makes, by the reply
-  module _ {A : Type 0} (f : Answer → A) (rest : A) (r : Reply) (e : r ≡ refusing Answered halted x s Deferred) where
-    pub refused-by : (a : Answer) → r ≡ Answered a → f a ≡ refusing f halted x s rest
-    refused-by a g = sym (refusing-by f rest (Answered a) (sym g ∙ e))
-
-    pub deferred-by : r ≡ Deferred → (o : A) → o ≡ rest → o ≡ refusing f halted x s rest
-    deferred-by g o h = h ∙ sym (refusing-by f rest Deferred (sym g ∙ e))
-
--- the width of a read that is well formed is at most 4
-pub width-small : (width a : ℕ) → malformed (Read width a) ≡ false → min width 4 ≡ width
-unfolding isWidth
-width-small width a e = go (eqb width 1) (eqb width 2) (eqb width 4) refl refl refl e
-  where
-    go : (p q r : Bool) → eqb width 1 ≡ p → eqb width 2 ≡ q → eqb width 4 ≡ r → not (p || q || r) ≡ false → min width 4 ≡ width
-    go true q r a b c h = let k = eqb-true width 1 a in rw k
-    go false true r a b c h = let k = eqb-true width 2 b in rw k
-    go false false true a b c h = let k = eqb-true width 4 c in rw k
-    go false false false a b c h = absurd (true≢false h)
-
-pub read-whole : (w : Region) (x : Memories) (width a : ℕ) → malformed (Read width a) ≡ false → (r : Answer) → r ≡ reads w x a (min width 4)
-    → replies (Answered r) x ≡ accessReply w x (Read width a)
-read-whole w x width a e r f = ap (λ b. replies (Answered b) x) (f ∙ ap (reads w x a) (width-small width a e))

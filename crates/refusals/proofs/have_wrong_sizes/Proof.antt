@@ -1,9 +1,9 @@
 use native.Mathlib.Omega.{arith}
 use lib.ListN.{length}
 use borrow.Author.Tests.{le-leb, lt-leb}
-use Rattle.access.specs.Access.{wrongSizes}
-use Rattle.access.proofs.have_wrong_sizes.Statement.{statement}
-use Rattle.access.proofs.have_wrong_sizes.Tie as tie
+use Rattle.refusals.specs.Refusals.{wrongSizes}
+use Rattle.refusals.proofs.have_wrong_sizes.Statement.{statement}
+use Rattle.refusals.proofs.have_wrong_sizes.Tie as tie
 
 returns : tie.Need-returns
 unfolding wrongSizes

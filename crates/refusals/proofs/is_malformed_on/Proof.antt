@@ -1,8 +1,8 @@
 use mathlib.Core.Path.{sym}
-use Rattle.access.specs.Access.{malformedOn}
+use Rattle.refusals.specs.Refusals.{malformedOn}
 use borrow.Author.Needs.{needs}
-use Rattle.access.proofs.is_malformed_on.Statement.{statement}
-use Rattle.access.proofs.is_malformed_on.Tie as tie
+use Rattle.refusals.proofs.is_malformed_on.Statement.{statement}
+use Rattle.refusals.proofs.is_malformed_on.Tie as tie
 
 is-malformed-requires : tie.Need-is-malformed-requires
 is-malformed-requires c κs = search needs

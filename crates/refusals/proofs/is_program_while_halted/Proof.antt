@@ -1,7 +1,7 @@
-use Rattle.access.specs.Access.{programWhileHalted}
+use Rattle.refusals.specs.Refusals.{programWhileHalted}
 use borrow.Author.Needs.{needs}
-use Rattle.access.proofs.is_program_while_halted.Statement.{statement}
-use Rattle.access.proofs.is_program_while_halted.Tie as tie
+use Rattle.refusals.proofs.is_program_while_halted.Statement.{statement}
+use Rattle.refusals.proofs.is_program_while_halted.Tie as tie
 
 is-program-requires : tie.Need-is-program-requires
 is-program-requires c κs = search needs
