@@ -1,5 +1,6 @@
-// Times the replay alone: a trace of 5,000 four-byte accesses, half of them in the region, reads and writes in turn. Both memories are
-// cleared before each run, outside the time. Prints the best and the median of many runs.
+// Times the replay alone: traces of 5,000 four-byte accesses, half of them in the region, reads and writes in turn. Each run has a trace of
+// its own, since a processor learns one that is played again and again by heart. Both memories are cleared before each run, outside the
+// time. Prints the best and the median of as many runs as the argument says, 3,000 without one.
 //
 //   rt staticlib export && rustc -O bench/main.rs -L target/staticlib -l static=export -o target/replay-bench && target/replay-bench
 use std::time::Instant;
@@ -13,8 +14,7 @@ extern "C" {
         main_len: usize,
         management: *mut u8,
         management_len: usize,
-        numbers: *mut u8,
-        values: *mut u32,
+        events: *mut u64,
         reason: *mut u8,
     ) -> usize;
 }
@@ -22,19 +22,17 @@ extern "C" {
 const MEMORY: usize = 65_536;
 const RECORDS: usize = 10_000;
 const ACCESSES: usize = 5_000;
-const RUNS: usize = 3_000;
 
 struct Bench {
     main: Vec<u8>,
     management: Vec<u8>,
-    numbers: Vec<u8>,
-    values: Vec<u32>,
+    events: Vec<u64>,
     reason: u8,
 }
 
 impl Bench {
     fn replay(&mut self, trace: &[u8]) -> usize {
-        assert!(self.numbers.len() == RECORDS && self.values.len() == RECORDS);
+        assert!(self.events.len() == RECORDS);
         unsafe {
             rostuvlad_replay(
                 trace.as_ptr(),
@@ -43,8 +41,7 @@ impl Bench {
                 self.main.len(),
                 self.management.as_mut_ptr(),
                 self.management.len(),
-                self.numbers.as_mut_ptr(),
-                self.values.as_mut_ptr(),
+                self.events.as_mut_ptr(),
                 &mut self.reason,
             )
         }
@@ -69,13 +66,13 @@ fn write(trace: &mut Vec<u8>, address: u32, value: u32) {
 }
 
 // SMAR 000683h, 16 KiB at 68000h, with USE_SMI and SMAC: the region's bytes go to management memory.
-fn trace() -> Vec<u8> {
+fn trace(start: u64) -> Vec<u8> {
     let mut t = vec![];
     for (index, value) in [(0xCD, 0x00), (0xCE, 0x06), (0xCF, 0x83), (0xC1, 0x06)] {
         out(&mut t, 0x22, index);
         out(&mut t, 0x23, value);
     }
-    let mut seed = 12_345u64;
+    let mut seed = start;
     let mut random = || {
         seed = seed.wrapping_mul(6_364_136_223_846_793_005).wrapping_add(1_442_695_040_888_963_407);
         (seed >> 33) as u32
@@ -92,27 +89,24 @@ fn trace() -> Vec<u8> {
 }
 
 fn main() {
-    let t = trace();
+    let runs: usize = std::env::args().nth(1).map_or(3_000, |n| n.parse().expect("a number of runs"));
     let mut b = Bench {
         main: vec![0; MEMORY],
         management: vec![0; MEMORY],
-        numbers: vec![0; RECORDS],
-        values: vec![0; RECORDS],
+        events: vec![0; RECORDS],
         reason: 9,
     };
     let mut times = vec![];
-    let mut count = 0;
-    for _ in 0..RUNS {
+    for run in 0..runs {
+        let t = trace(12_345 + run as u64);
         b.main.fill(0);
         b.management.fill(0);
         let start = Instant::now();
-        count = b.replay(&t);
+        let count = b.replay(&t);
         times.push(start.elapsed().as_nanos() as f64);
+        assert!(count == ACCESSES + 8 && b.reason == 0, "count {count}, reason {}", b.reason);
     }
-    assert!(count == ACCESSES + 8 && b.reason == 0, "count {count}, reason {}", b.reason);
     times.sort_by(|x, y| x.total_cmp(y));
-    let per = |ns: f64| ns / count as f64;
-    println!("records {count}, runs {RUNS}");
-    println!("best   {:8.0} ns, {:6.2} ns a record", times[0], per(times[0]));
-    println!("median {:8.0} ns, {:6.2} ns a record", times[RUNS / 2], per(times[RUNS / 2]));
+    let per = |ns: f64| ns / (ACCESSES + 8) as f64;
+    println!("runs {runs}: best {:.2}, median {:.2} ns a record", per(times[0]), per(times[runs / 2]));
 }
