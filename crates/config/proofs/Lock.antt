@@ -1,5 +1,5 @@
 -- The lock: what a write outside the mode leaves as it was, and what the locked bits decide. Assumes nothing.
-use mathlib.Core.Path.{_≡_, refl, sym, ap, _∙_}
+use mathlib.Core.Path.{_≡_, refl, sym, _∙_}
 use mathlib.Core.Bool.{Bool, true, false, cond, not, _&&_, _||_, and-false, and-eq-true-iff}
 use Prim.Native.Nat.{ℕ, zero, suc, _+_, _*_, _/_, _%_, _^_, _-_, _≤_, _<_, min, max}
 use native.Mathlib.Nat.{pow-suc}
@@ -12,7 +12,7 @@ use Rattle.region.specs.Region.{regionOf, sizeOf, usable, within}
 use Rattle.region.proofs.Usable.{usable-has}
 use Rattle.config.specs.declared.Settings.{Settings}
 use Rattle.config.specs.Settings.{useSmi, smac, smiLock, regionIn, windowOf, enabled, headerPlace, byteOf, withByte, lockedBits, keptBits, merged, written, SameLocked}
-use Rattle.config.specs.Locked.{Fixed, SettingsFit, LockedAsListed}
+use Rattle.config.specs.Locked.{Fixed, LockedAsListed}
 
 -- ---- the same locked bits
 

@@ -1,31 +1,43 @@
--- What was written is read back. Assumes nothing.
+-- The table fills the 48 bytes, and what was written is read back. Assumes nothing.
 use mathlib.Core.Path.{_≡_, refl, _∙_}
-use mathlib.Core.Bool.{Bool, true, false}
-use mathlib.Core.List.{List, [], _∷_, _++_, map, flatMap, append-assoc}
+use mathlib.Core.Bool.{Bool, true, _&&_, and-eq-true-iff}
+use mathlib.Core.List.{List, [], _∷_, _++_, map, flatMap}
 use Prim.Native.Nat.{ℕ, zero, suc, _+_, _*_, _/_, _%_, _≤_, _<_}
 use native.Mathlib.Omega.{arith}
-use lib.ListN.{length, getD, take, drop, List·getD-append}
-use lib.Seq.{sets, sets-eq, getD-append-add, length-take-le}
+use lib.ListN.{length, getD}
+use lib.Seq.{sets, getD-append-add}
 use lib.Dec.{eqb}
-use Rattle.fields.specs.Fields.{fieldAt, bytesOf}
-use Rattle.fields.proofs.Laws.{field-same, length-bytesOf, number-bytes}
+use borrow.Author.Tests.{eqb-true}
+use Rattle.fields.specs.Fields.{fieldAt, bytesOf, bit}
+use Rattle.fields.proofs.Laws.{field-same, length-bytesOf, number-bytes, bit-small, bit-back}
+use Rattle.fields.proofs.Storing.{stored-byte}
 use Rattle.header.specs.declared.Level.{Level}
 use Rattle.header.specs.declared.Level.the-variants.{Zero, One, Two, Three}
 use Rattle.header.specs.declared.Saved.{Saved}
-use Rattle.header.specs.Header.{Word, holds, upward, bit, levelNumber, levelOf, wordsBytes, headerBytes, headed, wordIn, resumed}
-use Rattle.header.specs.ReadBack.{SavedFits, WordsReadBack, RegistersReadBack}
+use Rattle.header.specs.Header.{Word, depth, contents, upward, levelNumber, levelOf, wordsBytes, headerBytes, headed, wordIn, resumed}
+use Rattle.header.specs.ReadBack.{TableFills, SavedFits, WordsReadBack, RegistersReadBack}
+
+-- each word begins four bytes below those above it
+abbrev stacked : List Word → Bool
+stacked [] = true
+stacked (w ∷ ws) = eqb (depth w) (4 * suc (length ws)) && stacked ws
+
+fills : (ws : List Word) → stacked ws ≡ true → (k : ℕ) → k < length ws → depth (getD ws k Word.Dr7) + 4 * k ≡ 4 * length ws
+fills [] e k h = absurd (omega arith)
+fills (w ∷ ws) e zero h =
+    let p = and-eq-true-iff (eqb (depth w) (4 * suc (length ws))) (stacked ws) .0 e in
+    omega (arith, eqb-true (depth w) (4 * suc (length ws)) (p .0))
+fills (w ∷ ws) e (suc k) h =
+    let p = and-eq-true-iff (eqb (depth w) (4 * suc (length ws))) (stacked ws) .0 e in
+    omega (arith, fills ws (p .1) k (omega arith))
+
+pub table-fills : TableFills
+table-fills = (refl, fills upward refl)
 
 pub length-bytes : (ws : List ℕ) → length (wordsBytes ws) ≡ 4 * length ws
 unfolding flatMap bytesOf
 length-bytes [] = refl
 length-bytes (w ∷ ws) = let e = length-bytes ws in omega arith
-
--- a byte of a list that was stored
-pub stored-byte : (g bs : List ℕ) (at i : ℕ) → at + length bs ≤ length g → i < length bs → getD (sets g at bs) (at + i) 0 ≡ getD bs i 0
-stored-byte g bs at i h k =
-    let l : length (take at g) ≡ at = length-take-le at g (omega arith) in
-    let e : at + i ≡ length (take at g) + i = omega arith in
-    rw (sets-eq bs g at h, append-assoc, e) (getD-append-add (take at g) (bs ++ drop (at + length bs) g) i 0 ∙ List·getD-append bs (drop (at + length bs) g) 0 i k)
 
 -- the words that the bytes hold
 held : (ws : List ℕ) (k : ℕ) → k < length ws → getD ws k 0 < 4294967296 → fieldAt (wordsBytes ws) (4 * k) 4 ≡ getD ws k 0
@@ -50,10 +62,6 @@ stored-word g ws at k h l f =
     rw e (stored-byte g (wordsBytes ws) at (4 * k + i) (omega arith) (omega arith)))
     ∙ held ws k l f
 
-bit-small : (b : Bool) → bit b < 2
-bit-small true = omega arith
-bit-small false = omega arith
-
 level-small : (l : Level) → levelNumber l < 4
 level-small Zero = omega arith
 level-small One = omega arith
@@ -61,7 +69,7 @@ level-small Two = omega arith
 level-small Three = omega arith
 
 module _ (s : Saved) (f : SavedFits s) where
-  fits : (w : Word) → holds s w < 4294967296
+  fits : (w : Word) → contents s w < 4294967296
   fits Word.Dr7 = f .registers .dr7
   fits Word.Eflags = f .registers .eflags
   fits Word.Cr0 = f .registers .cr0
@@ -76,11 +84,11 @@ module _ (s : Saved) (f : SavedFits s) where
   fits Word.StringIndex = f .index
 
   module _ (g : List ℕ) (at : ℕ) (h : at + 48 ≤ length g) where
-    back-at : (k : ℕ) (w : Word) → k < 12 → getD (map (holds s) upward) k 0 ≡ holds s w → fieldAt (headed g at s) (at + 4 * k) 4 ≡ holds s w
+    back-at : (k : ℕ) (w : Word) → k < 12 → getD (map (contents s) upward) k 0 ≡ contents s w → fieldAt (headed g at s) (at + 4 * k) 4 ≡ contents s w
     unfolding headed headerBytes
-    back-at k w l e = let i : holds s w < 4294967296 = fits w in stored-word g (map (holds s) upward) at k h l (omega (arith, e)) ∙ e
+    back-at k w l e = let i : contents s w < 4294967296 = fits w in stored-word g (map (contents s) upward) at k h l (omega (arith, e)) ∙ e
 
-    back : (w : Word) → wordIn (headed g at s) at w ≡ holds s w
+    back : (w : Word) → wordIn (headed g at s) at w ≡ contents s w
     back Word.Dr7 = back-at 11 Word.Dr7 (omega arith) refl
     back Word.Eflags = back-at 10 Word.Eflags (omega arith) refl
     back Word.Cr0 = back-at 9 Word.Cr0 (omega arith) refl
@@ -102,10 +110,6 @@ level-back Zero = refl
 level-back One = refl
 level-back Two = refl
 level-back Three = refl
-
-bit-back : (b : Bool) → eqb (bit b) 1 ≡ b
-bit-back true = refl
-bit-back false = refl
 
 pub registers-back : RegistersReadBack
 unfolding resumed
