@@ -1,4 +1,4 @@
-use Rattle.machine.specs.Service.{permitted}
+use Rattle.machine.specs.Steps.{permitted}
 use borrow.Author.Tests.{eq-eqb, ne-eqb}
 use mathlib.Core.Path.{sym}
 use borrow.Author.Needs.{needs}

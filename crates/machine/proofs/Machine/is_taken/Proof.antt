@@ -1,0 +1,30 @@
+use borrow.Author.Needs.{needs}
+use Rattle.machine.proofs.Machine.is_taken.Statement.{statement}
+use Rattle.machine.proofs.Machine.is_taken.Tie as tie
+use Rattle.machine.proofs.Machine.is_taken.Reads as reads
+use Rattle.machine.proofs.Machine.is_taken.Lts as lts
+use Rattle.config.proofs.Settings.enables_smi.Reads as enables-smi-reads
+use Rattle.machine.proofs.any.Reads as any-reads
+
+-- src/lib.rt:317:13
+returns : tie.Need-returns
+returns c = ?
+
+-- src/lib.rt:321:12
+enables-smi-requires : tie.Need-enables-smi-requires
+enables-smi-requires c κs = search needs
+
+-- src/lib.rt:322:13
+any-requires : tie.Need-any-requires
+any-requires c κs = search needs
+
+-- src/lib.rt:322:13
+returns-2 : tie.Need-returns-2
+returns-2 c = ?
+
+-- src/lib.rt:313:5
+returns-3 : tie.Need-returns-3
+returns-3 c = ?
+
+pub is-taken-spec : {M : Type 1} → statement M
+is-taken-spec = tie.close (tie.spec returns enables-smi-requires any-requires returns-2 returns-3)

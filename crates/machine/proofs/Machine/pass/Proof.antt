@@ -1,0 +1,47 @@
+use borrow.Author.Needs.{needs}
+use Rattle.machine.proofs.Machine.pass.Statement.{statement}
+use Rattle.machine.proofs.Machine.pass.Tie as tie
+use Rattle.machine.proofs.Machine.pass.Reads as reads
+use Rattle.machine.proofs.Machine.pass.Lts as lts
+use Rattle.machine.proofs.Machine.answers.Reads as answers-reads
+use Rattle.machine.proofs.Machine.with_latched.Reads as with-latched-reads
+
+-- src/lib.rt:333:24
+with-latched-requires : tie.Need-with-latched-requires
+with-latched-requires c κs = search needs
+
+-- src/lib.rt:333:17
+answers-requires : tie.Need-answers-requires
+answers-requires c κs = search needs
+
+-- src/lib.rt:333:17
+returns : tie.Need-returns
+returns c = ?
+
+-- src/lib.rt:335:13
+answers-requires-2 : tie.Need-answers-requires-2
+answers-requires-2 c κs = search needs
+
+-- src/lib.rt:335:13
+returns-2 : tie.Need-returns-2
+returns-2 c = ?
+
+-- src/lib.rt:337:9
+answers-requires-3 : tie.Need-answers-requires-3
+answers-requires-3 c κs = search needs
+
+-- src/lib.rt:328:5
+returns-3 : tie.Need-returns-3
+returns-3 c = ?
+
+pub pass-spec : {M : Type 1} → statement M
+pass-spec =
+    tie.close
+    (tie.spec
+    with-latched-requires
+    answers-requires
+    returns
+    answers-requires-2
+    returns-2
+    answers-requires-3
+    returns-3)

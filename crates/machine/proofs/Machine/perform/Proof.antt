@@ -1,0 +1,220 @@
+use Rattle.machine.proofs.Machine.perform.Statement.{statement}
+use Rattle.machine.proofs.Machine.perform.Tie as tie
+use Rattle.machine.proofs.Machine.perform.Reads as reads
+use Rattle.machine.proofs.Machine.perform.Lts as lts
+use Rattle.machine.proofs.Machine.answers.Reads as answers-reads
+use Rattle.machine.proofs.Machine.boundary.Reads as boundary-reads
+use Rattle.machine.proofs.Machine.halt.Reads as halt-reads
+use Rattle.machine.proofs.Machine.load_registers.Reads as load-registers-reads
+use Rattle.machine.proofs.Machine.opcode.Reads as opcode-reads
+use Rattle.machine.proofs.Machine.read.Reads as read-reads
+use Rattle.machine.proofs.Machine.read_port.Reads as read-port-reads
+use Rattle.machine.proofs.Machine.reset.Reads as reset-reads
+use Rattle.machine.proofs.Machine.wake.Reads as wake-reads
+use Rattle.machine.proofs.Machine.write.Reads as write-reads
+use Rattle.machine.proofs.Machine.write_port.Reads as write-port-reads
+
+-- src/lib.rt:617:21
+enum-told : tie.Need-enum-told
+enum-told c = ?
+
+-- src/lib.rt:617:21
+reset-requires : tie.Need-reset-requires
+reset-requires c κs = ?
+
+-- src/lib.rt:621:17
+enum-known-s : tie.Need-enum-known-s
+enum-known-s c = ?
+
+-- src/lib.rt:630:21
+load-registers-requires : tie.Need-load-registers-requires
+load-registers-requires c κs = ?
+
+-- src/lib.rt:642:26
+enum-known-s-2 : tie.Need-enum-known-s-2
+enum-known-s-2 c = ?
+
+-- src/lib.rt:642:46
+read-requires : tie.Need-read-requires
+read-requires c κs = ?
+
+-- src/lib.rt:644:17
+enum-known-s-3 : tie.Need-enum-known-s-3
+enum-known-s-3 c = ?
+
+-- src/lib.rt:647:18
+write-requires : tie.Need-write-requires
+write-requires c κs = ?
+
+-- src/lib.rt:648:30
+enum-known-s-4 : tie.Need-enum-known-s-4
+enum-known-s-4 c = ?
+
+-- src/lib.rt:649:21
+read-port-requires : tie.Need-read-port-requires
+read-port-requires c κs = ?
+
+-- src/lib.rt:652:31
+enum-known-s-5 : tie.Need-enum-known-s-5
+enum-known-s-5 c = ?
+
+-- src/lib.rt:653:21
+write-port-requires : tie.Need-write-port-requires
+write-port-requires c κs = ?
+
+-- src/lib.rt:657:17
+enum-known-s-6 : tie.Need-enum-known-s-6
+enum-known-s-6 c = ?
+
+-- src/lib.rt:662:21
+opcode-requires : tie.Need-opcode-requires
+opcode-requires c κs = ?
+
+-- src/lib.rt:666:17
+enum-known-s-7 : tie.Need-enum-known-s-7
+enum-known-s-7 c = ?
+
+-- src/lib.rt:670:21
+boundary-requires : tie.Need-boundary-requires
+boundary-requires c κs = ?
+
+-- src/lib.rt:673:51
+enum-told-2 : tie.Need-enum-told-2
+enum-told-2 c = ?
+
+-- src/lib.rt:673:38
+answers-requires : tie.Need-answers-requires
+answers-requires c κs = ?
+
+-- src/lib.rt:675:21
+enum-told-3 : tie.Need-enum-told-3
+enum-told-3 c = ?
+
+-- src/lib.rt:675:21
+halt-requires : tie.Need-halt-requires
+halt-requires c κs = ?
+
+-- src/lib.rt:679:21
+enum-told-4 : tie.Need-enum-told-4
+enum-told-4 c = ?
+
+-- src/lib.rt:679:21
+wake-requires : tie.Need-wake-requires
+wake-requires c κs = ?
+
+-- src/lib.rt:610:5
+returns : tie.Need-returns
+returns c = ?
+
+-- src/lib.rt:610:5
+returns-2 : tie.Need-returns-2
+returns-2 c = ?
+
+-- src/lib.rt:610:5
+same-length : tie.Need-same-length
+same-length c = ?
+
+-- src/lib.rt:610:5
+same-length-2 : tie.Need-same-length-2
+same-length-2 c = ?
+
+-- src/lib.rt:610:5
+returns-3 : tie.Need-returns-3
+returns-3 c = ?
+
+-- src/lib.rt:610:5
+same-length-3 : tie.Need-same-length-3
+same-length-3 c = ?
+
+-- src/lib.rt:610:5
+same-length-4 : tie.Need-same-length-4
+same-length-4 c = ?
+
+-- src/lib.rt:610:5
+returns-4 : tie.Need-returns-4
+returns-4 c = ?
+
+-- src/lib.rt:610:5
+returns-5 : tie.Need-returns-5
+returns-5 c = ?
+
+-- src/lib.rt:610:5
+returns-6 : tie.Need-returns-6
+returns-6 c = ?
+
+-- src/lib.rt:610:5
+same-length-5 : tie.Need-same-length-5
+same-length-5 c = ?
+
+-- src/lib.rt:610:5
+same-length-6 : tie.Need-same-length-6
+same-length-6 c = ?
+
+-- src/lib.rt:610:5
+returns-7 : tie.Need-returns-7
+returns-7 c = ?
+
+-- src/lib.rt:610:5
+same-length-7 : tie.Need-same-length-7
+same-length-7 c = ?
+
+-- src/lib.rt:610:5
+returns-8 : tie.Need-returns-8
+returns-8 c = ?
+
+-- src/lib.rt:610:5
+returns-9 : tie.Need-returns-9
+returns-9 c = ?
+
+-- src/lib.rt:610:5
+returns-10 : tie.Need-returns-10
+returns-10 c = ?
+
+-- src/lib.rt:610:5
+returns-11 : tie.Need-returns-11
+returns-11 c = ?
+
+pub perform-spec : {M : Type 1} → statement M
+perform-spec =
+    tie.close
+    (tie.spec
+    enum-told
+    reset-requires
+    enum-known-s
+    load-registers-requires
+    enum-known-s-2
+    read-requires
+    enum-known-s-3
+    write-requires
+    enum-known-s-4
+    read-port-requires
+    enum-known-s-5
+    write-port-requires
+    enum-known-s-6
+    opcode-requires
+    enum-known-s-7
+    boundary-requires
+    enum-told-2
+    answers-requires
+    enum-told-3
+    halt-requires
+    enum-told-4
+    wake-requires
+    returns
+    returns-2
+    same-length
+    same-length-2
+    returns-3
+    same-length-3
+    same-length-4
+    returns-4
+    returns-5
+    returns-6
+    same-length-5
+    same-length-6
+    returns-7
+    same-length-7
+    returns-8
+    returns-9
+    returns-10
+    returns-11)

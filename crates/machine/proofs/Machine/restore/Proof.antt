@@ -1,0 +1,61 @@
+use borrow.Author.Needs.{needs}
+use Rattle.machine.proofs.Machine.restore.Statement.{statement}
+use Rattle.machine.proofs.Machine.restore.Tie as tie
+use Rattle.machine.proofs.Machine.restore.Reads as reads
+use Rattle.machine.proofs.Machine.restore.Lts as lts
+use Rattle.machine.proofs.Machine.advance.Reads as advance-reads
+use Rattle.machine.proofs.Machine.answers.Reads as answers-reads
+use Rattle.machine.proofs.Machine.window.Reads as window-reads
+use Rattle.machine.proofs.Machine.with_segment.Reads as with-segment-reads
+use Rattle.memory.proofs.all_there.Reads as all-there-reads
+use Rattle.memory.proofs.load_segment.Reads as load-segment-reads
+
+-- src/lib.rt:446:13
+window-requires : tie.Need-window-requires
+window-requires c κs = search needs
+
+-- src/lib.rt:447:12
+all-there-requires : tie.Need-all-there-requires
+all-there-requires c κs = search needs
+
+-- src/lib.rt:448:17
+load-segment-requires : tie.Need-load-segment-requires
+load-segment-requires c κs = search needs
+
+-- src/lib.rt:449:20
+with-segment-requires : tie.Need-with-segment-requires
+with-segment-requires c κs = search needs
+
+-- src/lib.rt:449:20
+advance-requires : tie.Need-advance-requires
+advance-requires c κs = search needs
+
+-- src/lib.rt:449:13
+answers-requires : tie.Need-answers-requires
+answers-requires c κs = search needs
+
+-- src/lib.rt:449:13
+returns : tie.Need-returns
+returns c = ?
+
+-- src/lib.rt:453:9
+answers-requires-2 : tie.Need-answers-requires-2
+answers-requires-2 c κs = search needs
+
+-- src/lib.rt:436:5
+returns-2 : tie.Need-returns-2
+returns-2 c = ?
+
+pub restore-spec : {M : Type 1} → statement M
+restore-spec =
+    tie.close
+    (tie.spec
+    window-requires
+    all-there-requires
+    load-segment-requires
+    with-segment-requires
+    advance-requires
+    answers-requires
+    returns
+    answers-requires-2
+    returns-2)
