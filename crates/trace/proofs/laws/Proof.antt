@@ -10,7 +10,6 @@ use borrow.Author.Tests.{eqb-true}
 use Rattle.fields.specs.Fields.{fieldAt}
 use Rattle.steps.specs.declared.Step.{Step}
 use Rattle.steps.specs.Steps.{kindOf}
-use Rattle.trace.specs.declared.Found.{Found}
 use Rattle.trace.specs.declared.Found.the-variants.{Record, Bad}
 use Rattle.trace.specs.Trace.{Kind, kinds, registersOf, boundaryOf, recordBy, recordOf}
 use Rattle.trace.proofs.laws.Statement.{statement}
