@@ -1,54 +1,45 @@
 -- Storing a text piece by piece. Assumes nothing.
 use mathlib.Core.Path.{_≡_, refl, sym, ap, _∙_}
-use mathlib.Core.List.{List, [], _∷_, _++_, append-nil, append-assoc}
+use mathlib.Core.List.{List, [], _∷_, _++_, map, append-nil, append-assoc}
 use Prim.Native.Nat.{ℕ, zero, suc, _+_, _-_, _/_, _%_, _≤_, _<_}
-use native.Mathlib.Nat.{add-zero, not-suc-le-zero}
+use native.Mathlib.Nat.{not-suc-le-zero}
 use native.Mathlib.Numerals.{add-one}
 use native.Mathlib.Omega.{arith}
-use lib.ListN.{length, getD, take, drop, set, length-append, drop-of-length-le}
-use lib.Seq.{sets, sets-eq, length-sets, take-at, set-comm, drop-cons}
-use Rattle.lines.specs.Lines.{space, newline, digitOf, decimalOf, hexOf, lineOf, linesFor}
-use Rattle.lines.specs.Stores.{Stored, Written}
+use lib.ListN.{length, getD, take, drop, set, length-append, length-set, drop-of-length-le}
+use lib.Seq.{sets, length-sets, drop-cons}
+use Rattle.fields.proofs.Storing.{sets-append, sets-set-above, stored-front}
+use Rattle.events.specs.Events.{Event, noted}
+use Rattle.events.proofs.Packing.{taken-apart}
+use Rattle.lines.specs.Lines.{space, newline, digitOf, decimalOf, hexOf, lineOf, linesOf}
+use Rattle.lines.specs.Stores.{lineFor, linesFor, Stored, Printed}
 use Rattle.lines.proofs.Digits.{one-digit, two-digits, three-digits, hex-length}
-
-sets-append : (l : List ℕ) (i : ℕ) (xs ys : List ℕ) → sets l i (xs ++ ys) ≡ sets (sets l i xs) (i + length xs) ys
-sets-append l i [] ys = rw add-zero
-sets-append l i (x ∷ xs) ys =
-    let e : suc i + length xs ≡ i + suc (length xs) = omega arith in
-    sets-append (set l i x) (suc i) xs ys ∙ ap (λ (k : ℕ). sets (sets (set l i x) (suc i) xs) k ys) e
 
 -- one text after another
 pub both : {xs ys a b c : List ℕ} {p q r : ℕ} → Stored xs p q a b → Stored ys q r b c → Stored (xs ++ ys) p r a c
 both {xs} {ys} {a} {b} {c} {p} {q} {r} s t = record {
   ends = omega (arith, s .ends, t .ends, length-append xs ys);
+  fits = omega (arith, t .fits, ap length (s .stands), length-sets a p xs);
   stands = t .stands ∙ rw (s .stands, s .ends) (sym (sets-append a p xs ys));
 }
 
-pub one : (a b : List ℕ) (p x : ℕ) → b ≡ set a p x → Stored (x ∷ []) p (p + 1) a b
-one a b p x e = record { ends = refl; stands = e }
+one : (a : List ℕ) (p x : ℕ) → p < length a → Stored (x ∷ []) p (p + 1) a (set a p x)
+one a p x h = record { ends = refl; fits = omega arith; stands = refl }
 
 -- the digits of an answer, stored one by one
-module _ (l : List ℕ) (at n x y z : ℕ) where
+module _ (l : List ℕ) (at n x y z : ℕ) (room : at + 3 ≤ length l) where
   pub one-stored : n < 10 → x ≡ digitOf n → Stored (decimalOf 3 n) at (at + 1) l (set l at x)
-  one-stored h e = rw (one-digit n h, e) (record { ends = refl; stands = refl })
+  one-stored h e = rw (one-digit n h, e) (record { ends = refl; fits = omega arith; stands = refl })
 
   pub two-stored : 10 ≤ n → n < 100 → x ≡ digitOf (n / 10) → y ≡ digitOf (n % 10)
       → Stored (decimalOf 3 n) at (at + 2) l (set (set l at x) (at + 1) y)
-  two-stored h k e f = rw (two-digits n h k, e, f, add-one) (record { ends = refl; stands = refl })
+  two-stored h k e f = rw (two-digits n h k, e, f, add-one) (record { ends = refl; fits = omega arith; stands = refl })
 
   pub three-stored : 100 ≤ n → n < 1000 → x ≡ digitOf (n / 100) → y ≡ digitOf (n / 10 % 10) → z ≡ digitOf (n % 10)
       → Stored (decimalOf 3 n) at (at + 3) l (set (set (set l at x) (at + 1) y) (at + 2) z)
   three-stored h k e f g =
       let i : at + 1 ≡ suc at = omega arith in
       let j : at + 2 ≡ suc (suc at) = omega arith in
-      rw (three-digits n h k, e, f, g, i, j) (record { ends = refl; stands = refl })
-
--- a store past the places of a list may come first
-set-past : (l xs : List ℕ) (i k y : ℕ) → i + length xs ≤ k → set (sets l i xs) k y ≡ sets (set l k y) i xs
-set-past l [] i k y h = refl
-set-past l (x ∷ xs) i k y h =
-    let e : suc i + length xs ≤ k = omega arith in
-    set-past (set l i x) xs (suc i) k y e ∙ ap (λ (m : List ℕ). sets m (suc i) xs) (set-comm l i k x y (λ q. omega arith))
+      rw (three-digits n h k, e, f, g, i, j) (record { ends = refl; fits = omega arith; stands = refl })
 
 -- the last of the digits that are left is stored first
 module _ (l whole : List ℕ) (at : ℕ) where
@@ -61,7 +52,7 @@ module _ (l whole : List ℕ) (at : ℕ) where
       let n : length ds ≡ count = hex-length count (v / 16) in
       let k : at + length ds ≡ at + count = omega arith in
       let h : at + length ds ≤ at + count = omega arith in
-      sym (sets-append l at ds (d ∷ []) ∙ ap (λ (m : ℕ). set (sets l at ds) m d) k ∙ set-past l ds at (at + count) d h) ∙ e
+      sym (sets-append l at ds (d ∷ []) ∙ ap (λ (m : ℕ). set (sets l at ds) m d) k ∙ sets-set-above l at ds (at + count) d h) ∙ e
 
   pub digit-turn : (left v d : ℕ) → 0 < left → d ≡ digitOf (v % 16) → sets l at (hexOf left v) ≡ whole
       → sets (set l (at + (left - 1)) d) at (hexOf (left - 1) (v / 16)) ≡ whole
@@ -85,40 +76,36 @@ byte-turn l whole text at i h e =
 pub byte-end : (l whole text : List ℕ) (at i : ℕ) → length text ≤ i → sets l (at + i) (drop i text) ≡ whole → l ≡ whole
 byte-end l whole text at i h e = sym (ap (sets l (at + i)) (drop-of-length-le text h)) ∙ e
 
-pub line-stored : {a b c : List ℕ} {p q r : ℕ} (n v : ℕ) → Stored (decimalOf 3 n) p q a b → Stored (hexOf 8 v) (q + 1) r (set b q space) c
+pub line-stored : {a b c : List ℕ} {p q r : ℕ} (n v : ℕ) → r < length c → Stored (decimalOf 3 n) p q a b → Stored (hexOf 8 v) (q + 1) r (set b q space) c
     → Stored (lineOf n v) p (r + 1) a (set c r newline)
 unfolding lineOf
-line-stored {a} {b} {c} {p} {q} {r} n v s t = both (both s (both (one b _ q space refl) t)) (one c _ r newline refl)
+line-stored {a} {b} {c} {p} {q} {r} n v h s t =
+    let k : q < length b = omega (arith, t .ends, t .fits, length-set b q space) in
+    both (both s (both (one b q space k) t)) (one c r newline h)
 
 -- one line more
-lines-more : (ns vs : List ℕ) (i : ℕ) → i < length ns → i < length vs
-    → linesFor (take (suc i) ns) (take (suc i) vs) ≡ linesFor (take i ns) (take i vs) ++ lineOf (getD ns i 0) (getD vs i 0)
+lines-more : (es : List ℕ) (i : ℕ) → i < length es → linesFor (take (suc i) es) ≡ linesFor (take i es) ++ lineFor (getD es i 0)
 unfolding linesFor
-lines-more [] vs i h k = absurd (not-suc-le-zero h)
-lines-more (n ∷ ns) [] i h k = absurd (not-suc-le-zero k)
-lines-more (n ∷ ns) (v ∷ vs) zero h k = append-nil (lineOf n v)
-lines-more (n ∷ ns) (v ∷ vs) (suc i) h k =
-    let h′ : i < length ns = omega arith in
-    let k′ : i < length vs = omega arith in
-    rw (lines-more ns vs i h′ k′) (sym (append-assoc (lineOf n v) (linesFor (take i ns) (take i vs)) (lineOf (getD ns i 0) (getD vs i 0))))
+lines-more [] i h = absurd (not-suc-le-zero h)
+lines-more (e ∷ es) zero h = append-nil (lineFor e)
+lines-more (e ∷ es) (suc i) h =
+    let k : i < length es = omega arith in
+    rw (lines-more es i k) (sym (append-assoc (lineFor e) (linesFor (take i es)) (lineFor (getD es i 0))))
 
-pub line-turn : {a b c : List ℕ} {p q : ℕ} (ns vs : List ℕ) (i : ℕ) → i < length ns → i < length vs
-    → Stored (linesFor (take i ns) (take i vs)) 0 p a b → Stored (lineOf (getD ns i 0) (getD vs i 0)) p q b c
-    → Stored (linesFor (take (i + 1) ns) (take (i + 1) vs)) 0 q a c
-line-turn ns vs i h k s t = rw (add-one, lines-more ns vs i h k) (both s t)
+pub line-turn : {a b c : List ℕ} {p q : ℕ} (es : List ℕ) (i : ℕ) → i < length es → Stored (linesFor (take i es)) 0 p a b
+    → Stored (lineFor (getD es i 0)) p q b c → Stored (linesFor (take (i + 1) es)) 0 q a c
+line-turn es i h s t = rw (add-one, lines-more es i h) (both s t)
 
-pub no-line : (a : List ℕ) → Stored (linesFor [] []) 0 0 a a
+pub no-line : (a : List ℕ) → Stored (linesFor []) 0 0 a a
 unfolding linesFor
-no-line a = record { ends = refl; stands = refl }
+no-line a = record { ends = refl; fits = omega arith; stands = refl }
 
--- a list that was stored at the start of another stands there
-pub front : (l xs : List ℕ) (n : ℕ) → n ≡ length xs → n ≤ length l → take n (sets l 0 xs) ≡ xs
-front l xs n e h =
-    let k : 0 + length xs ≤ length l = omega arith in
-    ap (take n) (sets-eq xs l 0 k) ∙ take-at xs (drop (0 + length xs) l) n (sym e)
+-- a text that was printed is what the buffer's first bytes say
+pub printed-first : {text a b : List ℕ} {size : ℕ} → Printed text size a b → take size b ≡ text
+printed-first {text} {a} {b} {size} s = ap (take size) (s .stands) ∙ stored-front a text size (omega (arith, s .ends)) (s .fits)
 
-pub written : {text a b : List ℕ} {r : ℕ} → Stored text 0 r a b → r ≤ length b → Written text r a b
-written {text} {a} {b} {r} s h =
-    let n : r ≡ length text = omega (arith, s .ends) in
-    let k : r ≤ length a = omega (arith, ap length (s .stands), length-sets a 0 text) in
-    record { sized = n; fits = h; first = ap (take r) (s .stands) ∙ front a text r n k; stands = s .stands }
+-- the lines of a log are those of the answers that it noted
+pub lines-noted : (es : List Event) → linesFor (map noted es) ≡ linesOf (map (λ (e : Event). e .answer) es)
+unfolding linesFor linesOf
+lines-noted [] = refl
+lines-noted (e ∷ es) = rw (taken-apart e .number, taken-apart e .value, lines-noted es)

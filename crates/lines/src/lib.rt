@@ -96,7 +96,6 @@ fn put_bytes(out: &mut [u8], at: usize, text: &[u8]) -> usize
 fn put_word(out: &mut [u8], at: usize, reason: Reason) -> usize
     requires { ⌜ at + 6 ≤ length (now out) ⌝ }
     ensures { λ r. ⌜ Stored (wordOf reason) at r (now (out .entry)) (now (out .exit)) ⌝ }
-    ensures near { λ r. ⌜ r ≤ at + 6 ⌝ }
 {
     match reason {
         Reason::End => put_bytes(out, at, b"end\n"),

@@ -44,7 +44,7 @@ same-length : tie.Need-same-length Inv-loop μ-loop
 same-length c = search needs
 
 returns : tie.Need-returns Inv-loop μ-loop
-returns c = record { ends = omega arith; stands = byte-end _ _ _ _ _ (c .loop-test .left) (c .before .loop .inv .2) }
+returns c = record { ends = omega arith; fits = omega arith; stands = byte-end _ _ _ _ _ (c .loop-test .left) (c .before .loop .inv .2) }
 
 pub put-bytes-spec : {M : Type 1} → statement M
 put-bytes-spec =

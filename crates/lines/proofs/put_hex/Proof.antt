@@ -48,7 +48,14 @@ same-length : tie.Need-same-length Inv-loop μ-loop
 same-length c = search needs
 
 returns : tie.Need-returns Inv-loop μ-loop
-returns c = (record { ends = omega (arith, hex-length 8 (c .before .before .before .args .value)); stands = digit-end _ _ _ _ _ (c .loop-test .left) (c .before .loop .inv .3) }, refl)
+returns c = (
+  record {
+    ends = omega (arith, hex-length 8 (c .before .before .before .args .value));
+    fits = omega arith;
+    stands = digit-end _ _ _ _ _ (c .loop-test .left) (c .before .loop .inv .3);
+  },
+  refl,
+)
 
 pub put-hex-spec : {M : Type 1} → statement M
 put-hex-spec =
