@@ -1,8 +1,7 @@
 -- The packing of the log, taken apart. Assumes nothing.
-use mathlib.Core.Path.{_≡_, ap, _∙_}
-use Prim.Native.Nat.{ℕ, _/_, _%_, _<_}
+use mathlib.Core.Path.{_≡_}
+use Prim.Native.Nat.{_/_, _%_, _<_}
 use native.Mathlib.Omega.{arith}
-use lib.Dec.{eqb}
 use Rattle.fields.specs.Fields.{bit}
 use Rattle.fields.proofs.Laws.{bit-small, bit-back}
 use Rattle.steps.specs.declared.Answer.{Answer}
@@ -11,7 +10,7 @@ use Rattle.steps.specs.declared.Step.{Step}
 use Rattle.steps.specs.declared.Step.the-variants.{Reset, Registers, Read, Write, PortRead, PortWrite, Opcode, Boundary, UnnamedBoundary, Halt, Wake}
 use Rattle.steps.specs.Answers.{numberOf}
 use Rattle.steps.specs.Steps.{kindOf}
-use Rattle.events.specs.Events.{Event, noted, LogTakenApart}
+use Rattle.events.specs.Events.{noted, LogTakenApart}
 
 -- a number and a kind are bytes
 number-small : (a : Answer) → numberOf a < 256

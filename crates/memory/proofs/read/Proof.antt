@@ -48,10 +48,14 @@ read-bytewise-requires : tie.Need-read-bytewise-requires
 read-bytewise-requires c κs = search needs
 
 returns : tie.Need-returns
-returns c = read-whole _ _ false _ _ _ _ _ (c .before .before .before .before .at-most .ensures) (rw (c .before .enum-told .given .1) at (c .before .before .before .route-of .ensures)) (c .number-at .ensures .0)
+returns c =
+    let b = c .before .before .before in
+    read-whole _ _ false _ _ _ _ _ (b .before .at-most .ensures) (rw (c .before .enum-told .given .1) at (b .route-of .ensures)) (c .number-at .ensures .0)
 
 returns-2 : tie.Need-returns-2
-returns-2 c = read-whole _ _ true _ _ _ _ _ (c .before .before .before .before .before .at-most .ensures) (rw (c .before .before .enum-told2 .given .1) at (c .before .before .before .before .route-of .ensures)) (c .number-at2 .ensures .0)
+returns-2 c =
+    let b = c .before .before .before .before in
+    read-whole _ _ true _ _ _ _ _ (b .before .at-most .ensures) (rw (c .before .before .enum-told2 .given .1) at (b .route-of .ensures)) (c .number-at2 .ensures .0)
 
 returns-3 : tie.Need-returns-3
 returns-3 c = rw (sym (c .before .before .before .before .at-most .ensures)) (c .read-bytewise .ensures)

@@ -22,7 +22,9 @@ same-length-2 : tie.Need-same-length-2
 same-length-2 c = search needs
 
 returns : tie.Need-returns
-returns c = segment-stored _ _ _ _ _ _ (c .before .before .before .before .before .before .before .before .before .before .before .before .store-at .ensures) (c .before .before .before .before .store-at2 .ensures)
+returns c =
+    let b = c .before .before .before .before in
+    segment-stored _ _ _ _ _ _ (b .before .before .before .before .before .before .before .before .store-at .ensures) (b .store-at2 .ensures)
 
 pub store-segment-spec : {M : Type 1} → statement M
 store-segment-spec =

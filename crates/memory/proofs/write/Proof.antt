@@ -36,13 +36,19 @@ same-length : tie.Need-same-length
 same-length c = search needs
 
 returns : tie.Need-returns
-returns c = written-whole _ _ false _ _ _ _ _ (rw (c .before .before .before .before .enum-told .given .1) at (c .before .before .before .before .before .before .route-of .ensures)) (c .before .before .store-at .ensures)
+returns c =
+    let s = c .before .before in
+    let e = s .before .before in
+    written-whole _ _ false _ _ _ _ _ (rw (e .enum-told .given .1) at (e .before .before .route-of .ensures)) (s .store-at .ensures)
 
 same-length-2 : tie.Need-same-length-2
 same-length-2 c = search needs
 
 returns-2 : tie.Need-returns-2
-returns-2 c = written-whole _ _ true _ _ _ _ _ (rw (c .before .before .before .before .before .enum-told2 .given .1) at (c .before .before .before .before .before .before .before .route-of .ensures)) (c .before .before .store-at2 .ensures)
+returns-2 c =
+    let s = c .before .before in
+    let e = s .before .before .before in
+    written-whole _ _ true _ _ _ _ _ (rw (e .enum-told2 .given .1) at (e .before .before .route-of .ensures)) (s .store-at2 .ensures)
 
 same-length-3 : tie.Need-same-length-3
 same-length-3 c = search needs

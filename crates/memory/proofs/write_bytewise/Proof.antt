@@ -18,7 +18,10 @@ same-length-2 c = search needs
 
 returns : tie.Need-returns
 unfolding writes
-returns c = rw (sym (c .before .before .before .before .before .before .before .before .all-there .ensures) ∙ (c .before .before .before .before .before .before .before .if1 .taken), (c .before .before .before .before .store-at .ensures))
+returns c =
+    let s = c .before .before .before .before in
+    let i = s .before .before .before in
+    rw (sym (i .before .all-there .ensures) ∙ i .if1 .taken, s .store-at .ensures)
 
 returns-2 : tie.Need-returns-2
 unfolding writes
