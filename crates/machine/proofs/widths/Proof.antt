@@ -1,11 +1,12 @@
+-- The bounds are what owning a machine tells: each number is one of its type. Assumes nothing.
+use native.Mathlib.Omega.{arith}
+use Rattle.memory.specs.declared.Segment.{Segment}
+use Rattle.machine.specs.Widths.{SegmentFits}
 use Rattle.machine.proofs.widths.Statement.{statement}
 use Rattle.machine.proofs.widths.Tie as tie
-use Rattle.machine.proofs.widths.Reads as reads
-use Rattle.machine.proofs.widths.Lts as lts
 
--- src/lib.rt:711:1
 returns : tie.Need-returns
-returns c = ?
+returns c = let g = c .good .0 in let r = g .0 in let s = g .1 in ?
 
 pub widths-spec : {M : Type 1} → statement M
 widths-spec = tie.close (tie.spec returns)

@@ -39,7 +39,7 @@ fresh-requires-8 c κs = search needs
 
 -- src/lib.rt:121:5
 returns : tie.Need-returns
-returns c = ?
+returns c = rw ((c .before .before .before .before .before .before .before .fresh .ensures), (c .before .before .before .before .before .before .fresh2 .ensures), (c .before .before .before .before .before .fresh3 .ensures), (c .before .before .before .before .fresh4 .ensures), (c .before .before .before .fresh5 .ensures), (c .before .before .fresh6 .ensures), (c .before .fresh7 .ensures), (c .fresh8 .ensures))
 
 pub anew-spec : {M : Type 1} → statement M
 anew-spec =

@@ -1,3 +1,5 @@
+use mathlib.Core.Path.{sym, _∙_}
+use Rattle.machine.specs.Service.{boundaryStep}
 use borrow.Author.Needs.{needs}
 use Rattle.machine.proofs.Machine.boundary.Statement.{statement}
 use Rattle.machine.proofs.Machine.boundary.Tie as tie
@@ -21,7 +23,8 @@ same-length c = search needs
 
 -- src/lib.rt:591:13
 returns : tie.Need-returns
-returns c = ?
+unfolding boundaryStep
+returns c = λ main. rw (sym (c .before .before .before .before .before .is-taken .ensures) ∙ (c .before .before .before .before .if1 .taken)) ((c .before .before .enter-at-boundary .ensures) main)
 
 -- src/lib.rt:593:9
 pass-requires : tie.Need-pass-requires
@@ -29,7 +32,8 @@ pass-requires c κs = search needs
 
 -- src/lib.rt:579:5
 returns-2 : tie.Need-returns-2
-returns-2 c = ?
+unfolding boundaryStep
+returns-2 c = λ main. rw (sym (c .before .before .is-taken .ensures) ∙ (c .before .if1 .left), (c .pass .ensures))
 
 pub boundary-spec : {M : Type 1} → statement M
 boundary-spec =

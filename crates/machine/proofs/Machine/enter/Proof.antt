@@ -1,3 +1,4 @@
+use Rattle.machine.specs.Service.{entry}
 use borrow.Author.Needs.{needs}
 use Rattle.machine.proofs.Machine.enter.Statement.{statement}
 use Rattle.machine.proofs.Machine.enter.Tie as tie
@@ -30,7 +31,8 @@ same-length c = search needs
 
 -- src/lib.rt:280:5
 returns : tie.Need-returns
-returns c = ?
+unfolding entry
+returns c = λ main. rw ((c .answers .ensures), (c .before .entered .ensures), (c .before .before .before .before .write .ensures), (c .before .before .before .before .before .header-place .ensures))
 
 pub enter-spec : {M : Type 1} → statement M
 enter-spec =

@@ -25,7 +25,7 @@ same-length c = search needs
 
 -- src/lib.rt:290:5
 returns : tie.Need-returns
-returns c = ?
+returns c = λ main. rw ((c .before .before .enter .ensures) main, (c .before .before .before .before .before .trap-of .ensures), (c .before .before .before .before .either .ensures))
 
 pub enter-at-boundary-spec : {M : Type 1} → statement M
 enter-at-boundary-spec =

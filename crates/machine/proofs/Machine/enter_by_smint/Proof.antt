@@ -20,7 +20,7 @@ same-length c = search needs
 
 -- src/lib.rt:341:5
 returns : tie.Need-returns
-returns c = ?
+returns c = λ main. rw ((c .before .before .enter .ensures) main, (c .before .before .before .before .trap-of .ensures))
 
 pub enter-by-smint-spec : {M : Type 1} → statement M
 enter-by-smint-spec = tie.close (tie.spec trap-of-requires enter-requires same-length returns)

@@ -1,3 +1,4 @@
+use Rattle.machine.specs.Machines.{resetMachine}
 use borrow.Author.Needs.{needs}
 use Rattle.machine.proofs.Machine.initial.Statement.{statement}
 use Rattle.machine.proofs.Machine.initial.Tie as tie
@@ -19,7 +20,8 @@ segment-of-requires-3 c κs = search needs
 
 -- src/lib.rt:74:5
 returns : tie.Need-returns
-returns c = ?
+unfolding resetMachine
+returns c = rw ((c .before .before .segment-of .ensures), (c .before .segment-of2 .ensures), (c .segment-of3 .ensures))
 
 pub initial-spec : {M : Type 1} → statement M
 initial-spec =

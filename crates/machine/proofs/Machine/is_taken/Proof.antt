@@ -1,3 +1,5 @@
+use mathlib.Core.Path.{sym}
+use Rattle.machine.specs.Service.{taken}
 use borrow.Author.Needs.{needs}
 use Rattle.machine.proofs.Machine.is_taken.Statement.{statement}
 use Rattle.machine.proofs.Machine.is_taken.Tie as tie
@@ -8,7 +10,8 @@ use Rattle.machine.proofs.any.Reads as any-reads
 
 -- src/lib.rt:317:13
 returns : tie.Need-returns
-returns c = ?
+unfolding taken
+returns c = rw ((c .if1 .taken))
 
 -- src/lib.rt:321:12
 enables-smi-requires : tie.Need-enables-smi-requires
@@ -20,11 +23,13 @@ any-requires c κs = search needs
 
 -- src/lib.rt:322:13
 returns-2 : tie.Need-returns-2
-returns-2 c = ?
+unfolding taken
+returns-2 c = rw ((c .before .before .before .before .before .if1 .left), sym (c .before .before .enables-smi .ensures), (c .before .if2 .taken)) (c .any .ensures)
 
 -- src/lib.rt:313:5
 returns-3 : tie.Need-returns-3
-returns-3 c = ?
+unfolding taken
+returns-3 c = rw ((c .before .before .before .before .if1 .left), sym (c .before .enables-smi .ensures), (c .if2 .left))
 
 pub is-taken-spec : {M : Type 1} → statement M
 is-taken-spec = tie.close (tie.spec returns enables-smi-requires any-requires returns-2 returns-3)

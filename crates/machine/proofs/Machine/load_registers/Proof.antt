@@ -26,7 +26,7 @@ answers-requires c κs = search needs
 
 -- src/lib.rt:496:5
 returns : tie.Need-returns
-returns c = ?
+returns c = rw ((c .answers .ensures), (c .before .with-registers .ensures), (c .before .before .level-of .ensures), (c .before .before .before .segment-of .ensures))
 
 pub load-registers-spec : {M : Type 1} → statement M
 load-registers-spec =

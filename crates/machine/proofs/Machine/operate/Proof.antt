@@ -1,3 +1,4 @@
+use Rattle.machine.specs.Steps.{operated}
 use borrow.Author.Needs.{needs}
 use Rattle.machine.proofs.Machine.operate.Statement.{statement}
 use Rattle.machine.proofs.Machine.operate.Tie as tie
@@ -59,7 +60,8 @@ same-length-2 c = search needs
 
 -- src/lib.rt:457:5
 returns : tie.Need-returns
-returns c = ?
+unfolding operated
+returns c = rw ((c .before .before .before .before .before .before .before .before .o .given .1)) (c .before .before .before .before .save .ensures)
 
 -- src/lib.rt:457:5
 same-length-3 : tie.Need-same-length-3
@@ -71,7 +73,8 @@ same-length-4 c = search needs
 
 -- src/lib.rt:457:5
 returns-2 : tie.Need-returns-2
-returns-2 c = ?
+unfolding operated
+returns-2 c = rw ((c .before .before .before .before .o2 .given .1), (c .restore .ensures))
 
 -- src/lib.rt:457:5
 same-length-5 : tie.Need-same-length-5
@@ -79,7 +82,8 @@ same-length-5 c = search needs
 
 -- src/lib.rt:457:5
 returns-3 : tie.Need-returns-3
-returns-3 c = ?
+unfolding operated
+returns-3 c = rw ((c .before .before .before .before .enum-told .given .1)) ((c .before .before .enter-by-smint .ensures) (c .before .before .before .before .before .before .before .before .args .main .now))
 
 -- src/lib.rt:457:5
 same-length-6 : tie.Need-same-length-6
@@ -87,11 +91,13 @@ same-length-6 c = search needs
 
 -- src/lib.rt:457:5
 returns-4 : tie.Need-returns-4
-returns-4 c = ?
+unfolding operated
+returns-4 c = rw ((c .before .before .enum-told2 .given .1), (c .resume .ensures))
 
 -- src/lib.rt:457:5
 returns-5 : tie.Need-returns-5
-returns-5 c = ?
+unfolding operated
+returns-5 c = rw ((c .before .enum-told3 .given .1), (c .answers .ensures))
 
 pub operate-spec : {M : Type 1} → statement M
 operate-spec =

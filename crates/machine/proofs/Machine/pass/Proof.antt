@@ -1,3 +1,4 @@
+use Rattle.machine.specs.Service.{passed}
 use borrow.Author.Needs.{needs}
 use Rattle.machine.proofs.Machine.pass.Statement.{statement}
 use Rattle.machine.proofs.Machine.pass.Tie as tie
@@ -16,7 +17,8 @@ answers-requires c κs = search needs
 
 -- src/lib.rt:333:17
 returns : tie.Need-returns
-returns c = ?
+unfolding passed
+returns c = simp ((c .before .before .before .if1 .taken), (c .before .before .if2 .taken), (c .answers .ensures), (c .before .with-latched .ensures))
 
 -- src/lib.rt:335:13
 answers-requires-2 : tie.Need-answers-requires-2
@@ -24,7 +26,8 @@ answers-requires-2 c κs = search needs
 
 -- src/lib.rt:335:13
 returns-2 : tie.Need-returns-2
-returns-2 c = ?
+unfolding passed
+returns-2 c = simp ((c .before .before .if1 .taken), (c .before .if2 .left), (c .answers2 .ensures))
 
 -- src/lib.rt:337:9
 answers-requires-3 : tie.Need-answers-requires-3
@@ -32,7 +35,8 @@ answers-requires-3 c κs = search needs
 
 -- src/lib.rt:328:5
 returns-3 : tie.Need-returns-3
-returns-3 c = ?
+unfolding passed
+returns-3 c = simp ((c .before .if1 .left), (c .answers3 .ensures))
 
 pub pass-spec : {M : Type 1} → statement M
 pass-spec =

@@ -1,3 +1,4 @@
+use Rattle.steps.proofs.Laws.{width-small}
 use borrow.Author.Needs.{needs}
 use Rattle.machine.proofs.Machine.read.Statement.{statement}
 use Rattle.machine.proofs.Machine.read.Tie as tie
@@ -21,7 +22,7 @@ answers-requires c κs = search needs
 
 -- src/lib.rt:523:5
 returns : tie.Need-returns
-returns c = ?
+returns c = rw ((c .answers .ensures), (c .before .read .ensures), (c .before .before .window .ensures), width-small _ (c .before .before .before .before .before .pre))
 
 pub read-spec : {M : Type 1} → statement M
 read-spec = tie.close (tie.spec window-requires read-requires answers-requires returns)

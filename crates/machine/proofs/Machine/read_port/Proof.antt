@@ -16,7 +16,7 @@ ported-requires c κs = search needs
 
 -- src/lib.rt:546:5
 returns : tie.Need-returns
-returns c = ?
+returns c = rw ((c .ported .ensures), (c .before .read .ensures))
 
 pub read-port-spec : {M : Type 1} → statement M
 read-port-spec = tie.close (tie.spec read-requires ported-requires returns)

@@ -16,7 +16,7 @@ answers-requires c κs = search needs
 
 -- src/lib.rt:490:5
 returns : tie.Need-returns
-returns c = ?
+returns c = rw ((c .answers .ensures), (c .before .initial .ensures))
 
 pub reset-spec : {M : Type 1} → statement M
 reset-spec = tie.close (tie.spec initial-requires answers-requires returns)

@@ -1,3 +1,4 @@
+use Rattle.machine.proofs.Found.{restore-there, restore-absent}
 use borrow.Author.Needs.{needs}
 use Rattle.machine.proofs.Machine.restore.Statement.{statement}
 use Rattle.machine.proofs.Machine.restore.Tie as tie
@@ -36,7 +37,7 @@ answers-requires c κs = search needs
 
 -- src/lib.rt:449:13
 returns : tie.Need-returns
-returns c = ?
+returns c = rw ((c .answers .ensures), (c .before .advance .ensures), (c .before .before .with-segment .ensures)) (restore-there _ _ _ (c .before .before .before .before .before .before .window .ensures) _ _ _ _ (c .before .before .before .before .before .all-there .ensures) (c .before .before .before .before .if1 .taken) _ (c .before .before .before .load-segment .ensures))
 
 -- src/lib.rt:453:9
 answers-requires-2 : tie.Need-answers-requires-2
@@ -44,7 +45,7 @@ answers-requires-2 c κs = search needs
 
 -- src/lib.rt:436:5
 returns-2 : tie.Need-returns-2
-returns-2 c = ?
+returns-2 c = rw ((c .answers2 .ensures)) (restore-absent _ _ _ (c .before .before .before .window .ensures) _ _ _ _ (c .before .before .all-there .ensures) (c .before .if1 .left))
 
 pub restore-spec : {M : Type 1} → statement M
 restore-spec =

@@ -1,3 +1,4 @@
+use Rattle.machine.proofs.Found.{save-there, save-absent}
 use borrow.Author.Needs.{needs}
 use Rattle.machine.proofs.Machine.save.Statement.{statement}
 use Rattle.machine.proofs.Machine.save.Tie as tie
@@ -44,7 +45,7 @@ same-length-2 c = search needs
 
 -- src/lib.rt:430:13
 returns : tie.Need-returns
-returns c = ?
+returns c = rw ((c .answers .ensures), (c .before .advance .ensures)) (save-there _ _ _ (c .before .before .before .before .before .before .before .before .before .before .before .before .window .ensures) _ _ _ _ (c .before .before .before .before .before .before .before .before .before .before .all-there .ensures) (c .before .before .before .before .before .before .before .before .before .if1 .taken) _ (c .before .before .before .before .before .before .before .before .before .before .before .segment .ensures) _ (c .before .before .before .before .before .before .store-segment .ensures))
 
 -- src/lib.rt:432:9
 answers-requires-2 : tie.Need-answers-requires-2
@@ -52,7 +53,7 @@ answers-requires-2 c κs = search needs
 
 -- src/lib.rt:415:5
 returns-2 : tie.Need-returns-2
-returns-2 c = ?
+returns-2 c = rw ((c .answers2 .ensures)) (save-absent _ _ _ (c .before .before .before .before .window .ensures) _ _ _ _ (c .before .before .all-there .ensures) (c .before .if1 .left))
 
 pub save-spec : {M : Type 1} → statement M
 save-spec =

@@ -1,3 +1,4 @@
+use Rattle.machine.proofs.Found.{write-reached}
 use borrow.Author.Needs.{needs}
 use Rattle.machine.proofs.Machine.write.Statement.{statement}
 use Rattle.machine.proofs.Machine.write.Tie as tie
@@ -29,7 +30,7 @@ same-length-2 c = search needs
 
 -- src/lib.rt:531:5
 returns : tie.Need-returns
-returns c = ?
+returns c = rw ((c .answers .ensures)) (write-reached _ _ _ (c .before .before .before .before .before .before .before .before .window .ensures) _ _ _ _ _ (c .before .before .before .before .before .write .ensures))
 
 pub write-spec : {M : Type 1} → statement M
 write-spec =

@@ -16,7 +16,7 @@ ported-requires c κs = search needs
 
 -- src/lib.rt:553:5
 returns : tie.Need-returns
-returns c = ?
+returns c = rw ((c .ported .ensures), (c .before .write .ensures))
 
 pub write-port-spec : {M : Type 1} → statement M
 write-port-spec = tie.close (tie.spec write-requires ported-requires returns)
