@@ -38,11 +38,11 @@ module _ (g : List ℕ) (long : length g ≡ 65536) where
   abbrev x : Memories
   x = memories [] g
 
-  whole : wrongSizes x ≡ false
+  pub whole : wrongSizes x ≡ false
   unfolding wrongSizes
   whole = rw long
 
-  allowed : (halted : Bool) (s : Step) → malformedOn halted s ≡ false → programWhileHalted halted s ≡ false → firstRefusal halted x s ≡ Allowed
+  pub allowed : (halted : Bool) (s : Step) → malformedOn halted s ≡ false → programWhileHalted halted s ≡ false → firstRefusal halted x s ≡ Allowed
   allowed halted s formed awake = taken-allowed halted x s (record { sizes = whole; formed = formed; awake = awake })
 
   called-for : (calledFor locked x Halt ≡ 0)
@@ -76,7 +76,7 @@ module _ (g : List ℕ) (long : length g ≡ 65536) where
   enters-last : lastNumber (answersOf (run locked x stepsToEntry)) ≡ 11
   enters-last = rw answers (enters-at-boundary true)
 
-full : (b : ℕ) → length (replicate 65536 b) ≡ 65536
+pub full : (b : ℕ) → length (replicate 65536 b) ≡ 65536
 full b = length-replicate 65536 b
 
 pub refusal-examples : RefusalExamples
