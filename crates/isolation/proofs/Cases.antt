@@ -9,9 +9,10 @@ both P true p q = p refl
 both P false p q = q refl
 
 -- the same where one goes by the test's opposite
-pub across : {A B : Type 0} (P : A → B → Type 0) (b : Bool) {t f : A} {u v : B} → P t v → P f u → P (cond b t f) (cond (not b) u v)
-across P true p q = p
-across P false p q = q
+pub across : {A B : Type 0} (P : A → B → Type 0) (b : Bool) {t f : A} {u v : B}
+    → (b ≡ true → P t v) → (b ≡ false → P f u) → P (cond b t f) (cond (not b) u v)
+across P true p q = p refl
+across P false p q = q refl
 
 -- what holds of both ways of a test
 pub either : {A : Type 0} (P : A → Type 0) (b : Bool) {t f : A} → (b ≡ true → P t) → (b ≡ false → P f) → P (cond b t f)

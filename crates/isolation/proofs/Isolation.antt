@@ -1,41 +1,47 @@
 -- Demand 3. Assumes nothing.
 use mathlib.Core.Path.{_≡_, refl, sym, ap, _∙_}
-use mathlib.Core.Bool.{Bool, true, false, _||_, and-false, cond}
+use mathlib.Core.Bool.{Bool, true, false, and-false, cond}
 use mathlib.Core.List.{List, [], _∷_}
 use Prim.Native.Nat.{ℕ, suc, _+_, _-_, _≤_, _<_}
 use native.Mathlib.Omega.{arith}
 use lib.Dec.{eqb}
 use lib.ListN.{length, take, length-take}
 use lib.Seq.{sets, getD-take}
+use borrow.Author.Tests.{eqb-false}
 use Rattle.region.specs.Region.{within}
 use Rattle.fields.specs.Fields.{fieldAt, bytesOf}
-use Rattle.memory.specs.Memory.{Memories, Reached, memories, load, store, reads, writes}
-use Rattle.memory.proofs.Laws.{load-out, store-all-out}
+use Rattle.memory.specs.Memory.{Memories, Reached, memories, there, load, store, reads, writes}
+use Rattle.memory.proofs.Laws.{load-of, store-all-of}
 use Rattle.steps.specs.declared.Answer.{Answer}
-use Rattle.steps.specs.declared.Answer.the-variants.{Done, WrongSize, Malformed, WhileHalted, Invalid, Absent, Value, Nothing, Ignored, Entered}
+use Rattle.steps.specs.declared.Answer.the-variants.{Done, WrongSize, Malformed, WhileHalted, Invalid, Absent, Value}
 use Rattle.steps.specs.declared.Interruption.{Interruption}
 use Rattle.steps.specs.declared.Step.{Step}
 use Rattle.steps.specs.declared.Step.the-variants.{Reset, Registers, Read, Write, PortRead, PortWrite, Opcode, Boundary, UnnamedBoundary, Halt, Wake}
 use Rattle.steps.specs.Answers.{numberOf}
+use Rattle.events.specs.Events.{Event, event}
+use Rattle.refusals.specs.declared.Verdict.{Verdict}
+use Rattle.refusals.specs.Refusals.{wrongSizes, firstRefusal}
+use Rattle.refusals.proofs.Laws.{by-verdict, sizes}
 use Rattle.config.specs.declared.Accessed.{Accessed}
 use Rattle.config.specs.Settings.{smac, smiLock, enabled, headerPlace, SameLocked}
-use Rattle.config.proofs.Lock.{locked-refl, locked-trans, locked-fixed, fixed-smac, fixed-lock, fixed-place, window-shut, enabled-usable, place-fits}
+use Rattle.config.proofs.Lock.{locked-refl, locked-trans, same-smac, same-lock, same-place, window-shut, enabled-usable, place-fits}
 use Rattle.header.specs.Header.{headed, headerBytes}
 use Rattle.header.specs.declared.Saved.{Saved}
 use Rattle.opcodes.specs.declared.Operation.{Operation}
-use Rattle.opcodes.specs.Decode.{decoded}
+use Rattle.opcodes.specs.Decode.{operationOf}
 use Rattle.machine.specs.declared.Machine.{Machine}
 use Rattle.machine.specs.declared.Stepped.{Stepped}
-use Rattle.machine.specs.Outcomes.{Outcome, Managed, gives, ends, manages, over}
-use Rattle.machine.specs.Service.{settingsOf, savedAtBoundary, enteredMachine, entry, boundary, permitted}
-use Rattle.access.specs.Access.{wrongSizes, malformedOn, programWhileHalted}
-use Rattle.machine.specs.Steps.{valid, window, ported, opcode, performed, stepped, Run, run}
-use Rattle.isolation.specs.Refusals.{there}
+use Rattle.machine.specs.Outcomes.{Outcome, gives, ends}
+use Rattle.machine.specs.Service.{settingsOf, savedAtBoundary, enteredMachine, entry, taken, passed, boundaryStep}
+use Rattle.machine.specs.Steps.{window, permitted, valid, portStep, opcodeStep, performed, decided, stepped}
+use Rattle.runs.specs.Runs.{Run, run, answersOf}
+use Rattle.runs.proofs.Turns.{preceded}
 use Rattle.isolation.specs.Service.{OnlyHeader}
-use Rattle.isolation.specs.Isolation.{Locked, NoReset, UpToEntry, lastAnswer, SameHeader, Agree, Isolated, throughEntry, SameAnswers}
-use Rattle.isolation.proofs.Ports.{read-keeps, write-keeps}
-use Rattle.isolation.proofs.Cases.{both, either, unlike}
-use Rattle.isolation.proofs.Entering.{only-header, sizes, not-entered}
+use Rattle.isolation.specs.Isolation.{Start, NoReset, UpToEntry, lastNumber, SameHeader, Agree, Isolated, throughEntry, SameAnswers}
+use Rattle.isolation.proofs.Answers.{read-keeps, write-keeps, passes}
+use Rattle.isolation.proofs.Cases.{both}
+use Rattle.isolation.proofs.Doing.{taken-enabled}
+use Rattle.isolation.proofs.Entering.{only-header}
 
 -- a later machine of a run that began on start: outside the mode, the locked settings as they were
 record Held (start m : Machine) : Type 0 where
@@ -47,16 +53,17 @@ record One (start : Machine) (g h : List ℕ) (o p : Outcome) : Type 0 where
   pub same : o .stepped ≡ p .stepped
   pub main : o .memory .main ≡ p .memory .main
   pub settings : SameLocked (settingsOf (o .stepped .machine)) (settingsOf start)
-  pub before : (o .stepped .answer ≡ Entered → ⊥) → (o .memory .management ≡ g) × (p .memory .management ≡ h) × (o .stepped .machine .inside ≡ false)
-  pub entered : o .stepped .answer ≡ Entered → SameHeader start g h (o .memory .management) (p .memory .management)
+  pub before : (numberOf (o .stepped .answer) ≡ 11 → ⊥) → (o .memory .management ≡ g) × (p .memory .management ≡ h) × (o .stepped .machine .inside ≡ false)
+  pub entered : numberOf (o .stepped .answer) ≡ 11 → SameHeader start g h (o .memory .management) (p .memory .management)
 
-sized-alike : (main g h : List ℕ) → length g ≡ length h → wrongSizes (memories main g) ≡ wrongSizes (memories main h)
-unfolding wrongSizes
-sized-alike main g h e = rw e
+alike : (halted : Bool) (main g h : List ℕ) (s : Step) → length g ≡ length h
+    → firstRefusal halted (memories main g) s ≡ firstRefusal halted (memories main h) s
+unfolding firstRefusal wrongSizes
+alike halted main g h s e = rw e
 
 -- ---- one step
 
-module _ (start : Machine) (from : Locked start) (g h : List ℕ) (main : List ℕ) where
+module _ (start : Machine) (from : Start start) (g h : List ℕ) (main : List ℕ) where
   abbrev P : Outcome → Outcome → Type 0
   P = One start g h
 
@@ -68,15 +75,15 @@ module _ (start : Machine) (from : Locked start) (g h : List ℕ) (main : List �
     main = refl;
     settings = held .settings;
     before = λ n. (refl, refl, held .outside);
-    entered = not-entered (r .answer) e;
+    entered = λ n. absurd (eqb-false (numberOf (r .answer)) 11 e n);
   }
 
   module _ (m : Machine) (held : Held start m) where
     lock : smiLock (settingsOf m) ≡ true
-    lock = fixed-lock (locked-fixed (held .settings)) ∙ from .locked
+    lock = same-lock (held .settings) ∙ from .locked
 
     closed : smac (settingsOf m) ≡ false
-    closed = fixed-smac (locked-fixed (held .settings)) ∙ from .closed
+    closed = same-smac (held .settings) ∙ from .closed
 
     shut : (a : ℕ) → within (window m) a ≡ false
     shut a = rw (held .outside) (window-shut (settingsOf m) a closed)
@@ -93,8 +100,8 @@ module _ (start : Machine) (from : Locked start) (g h : List ℕ) (main : List �
     unfolding performed reads
     read-one width a =
         let found : (l : List ℕ) → load (window m) (memories main l) a width ≡ fieldAt main a width
-        = λ l. load-out (window m) (memories main l) a width (λ k p q. shut k) in
-        both (λ (r q : Answer). P (ends (gives m r) (memories main g)) (ends (gives m q) (memories main h))) (there m (memories main g) a width)
+        = λ l. load-of (window m) false main l a width (λ k p q. shut k) in
+        both (λ (r q : Answer). P (ends (gives m r) (memories main g)) (ends (gives m q) (memories main h))) (there (window m) (memories main g) a width)
         (λ k. rw (found g, found h) (stays (Value (fieldAt main a width)) refl))
         (λ k. stays Absent refl)
 
@@ -102,35 +109,35 @@ module _ (start : Machine) (from : Locked start) (g h : List ℕ) (main : List �
     unfolding performed writes
     write-one width a v =
         let left : (l : List ℕ) → store (window m) (memories main l) a width v ≡ memories (sets main a (bytesOf width v)) l
-        = λ l. store-all-out (window m) (memories main l) a width v (λ k p q. shut k) in
+        = λ l. store-all-of (window m) false main l a width v (λ k p q. shut k) in
         both
         (λ (t u : Reached). P (ends (gives m (t .answer)) (t .memory)) (ends (gives m (u .answer)) (u .memory)))
-        (there m (memories main g) a width)
+        (there (window m) (memories main g) a width)
         (λ k. rw (left g, left h) (quiet (gives m Done) (sets main a (bytesOf width v)) refl held))
         (λ k. stays Absent refl)
 
     port-one : (p : Accessed) → eqb (numberOf (p .answer)) 11 ≡ false → SameLocked (p .config .settings) (settingsOf m)
-        → P (ends (ported m p) (memories main g)) (ends (ported m p) (memories main h))
-    port-one p e k = quiet (ported m p) main e (kept (ported m p .machine) refl k)
+        → P (ends (portStep m p) (memories main g)) (ends (portStep m p) (memories main h))
+    port-one p e k = quiet (portStep m p) main e (kept (portStep m p .machine) refl k)
 
     -- outside the mode with SMAC 0 no operation is valid
     not-valid : (o : Operation) → valid m o ≡ false
     unfolding valid permitted
     not-valid o = rw (held .outside, closed, and-false)
 
-    opcode-one : (o : Operation) (a next : ℕ) → P (opcode m (memories main g) o a next) (opcode m (memories main h) o a next)
-    unfolding opcode
-    opcode-one o a next = rw (not-valid o) (stays Invalid refl)
+    opcode-one : (op modrm a next : ℕ) → P (opcodeStep m (memories main g) op modrm a next) (opcodeStep m (memories main h) op modrm a next)
+    unfolding opcodeStep
+    opcode-one op modrm a next = rw (not-valid (operationOf op modrm)) (stays Invalid refl)
 
     module _ (long : length g ≡ 65536) (equal : length g ≡ length h) where
       entry-one : (s : Saved) (latched : Bool) → enabled (settingsOf m) ≡ true
-          → P (over (memories main g) (entry m g s latched)) (over (memories main h) (entry m h s latched))
+          → P (entry m (memories main g) s latched) (entry m (memories main h) s latched)
       unfolding entry enteredMachine
       entry-one s latched e =
           let at = headerPlace (settingsOf m) in
           let fits = place-fits (settingsOf m) (enabled-usable (settingsOf m) e) in
           let moved : (l : List ℕ) → at + 48 ≤ length l → OnlyHeader l (headed l at s) (headerPlace (settingsOf start)) (headerBytes s)
-          = λ l f. rw (← fixed-place (locked-fixed (held .settings))) (only-header l at s f) in
+          = λ l f. rw (← same-place (held .settings)) (only-header l at s f) in
           record {
             same = refl;
             main = refl;
@@ -140,16 +147,13 @@ module _ (start : Machine) (from : Locked start) (g h : List ℕ) (main : List �
           }
 
       boundary-one : (asserted : Bool) (current : ℕ) (i : Interruption)
-          → P (over (memories main g) (boundary m g asserted current i)) (over (memories main h) (boundary m h asserted current i))
-      unfolding boundary
+          → P (boundaryStep m (memories main g) asserted current i) (boundaryStep m (memories main h) asserted current i)
+      unfolding boundaryStep
       boundary-one asserted current i =
-          let Q : Managed → Managed → Type 0 = λ b d. P (over (memories main g) b) (over (memories main h) d) in
-          both Q (m .inside)
-          (λ k. unlike k (held .outside))
-          (λ k. both Q (enabled (settingsOf m))
-          (λ l. both Q (asserted || m .latched) (λ n. entry-one (savedAtBoundary m current i) false l) (λ n. stays Nothing refl))
-          (λ l. either (λ (a : Answer). Q (manages (gives m a) g) (manages (gives m a) h)) asserted
-          (λ n. stays Ignored refl) (λ n. stays Nothing refl)))
+          let p = passes m asserted in
+          both P (taken m asserted)
+          (λ k. entry-one (savedAtBoundary m current i) false (taken-enabled m asserted k))
+          (λ k. quiet (passed m asserted) main (p .0 .other) (rw (p .1 (held .outside)) held))
 
       performed-one : (s : Step) → (s ≡ Reset → ⊥) → P (performed m (memories main g) s) (performed m (memories main h) s)
       unfolding performed
@@ -159,7 +163,7 @@ module _ (start : Machine) (from : Locked start) (g h : List ℕ) (main : List �
       performed-one (Write width a v) n = write-one width a v
       performed-one (PortRead port) n = let k = read-keeps (m .config) port in port-one _ (k .0 .other) (rw (k .1) locked-refl)
       performed-one (PortWrite port v) n = let k = write-keeps (m .config) port v (m .inside) in port-one _ (k .0 .other) (k .1 (held .outside) lock)
-      performed-one (Opcode op modrm a next) n = opcode-one (decoded op modrm) a next
+      performed-one (Opcode op modrm a next) n = opcode-one op modrm a next
       performed-one (Boundary smi current i) n = boundary-one (eqb smi 1) current i
       performed-one UnnamedBoundary n = stays Malformed refl
       performed-one Halt n = quiet _ main refl (kept _ refl locked-refl)
@@ -168,30 +172,28 @@ module _ (start : Machine) (from : Locked start) (g h : List ℕ) (main : List �
     step-one : (s : Step) → length g ≡ length h → (s ≡ Reset → ⊥) → P (stepped m (memories main g) s) (stepped m (memories main h) s)
     unfolding stepped
     step-one s e n =
-        rw (sized-alike main g h e)
-        (both P (wrongSizes (memories main h)) (λ k. stays WrongSize refl)
-        (λ k. both P (malformedOn (m .halted) s) (λ l. stays Malformed refl)
-        (λ l. both P (programWhileHalted (m .halted) s) (λ o. stays WhileHalted refl)
-        (λ o. performed-one (e ∙ sizes _ k .management) e s n))))
+        rw (alike (m .halted) main g h s e)
+        (by-verdict (m .halted) (memories main h) s (λ v. P (decided m (memories main g) s v) (decided m (memories main h) s v))
+        (λ k. stays WrongSize refl) (λ k. stays Malformed refl) (λ k. stays WhileHalted refl)
+        (λ t. performed-one (e ∙ sizes (memories main h) (t .sizes) .management-whole) e s n))
 
 -- ---- a list of steps
 
-last-of-more : (a : Answer) (bs : List Answer) → 0 < length bs → lastAnswer (a ∷ bs) ≡ lastAnswer bs
+last-of-more : (a : Answer) (bs : List Answer) → 0 < length bs → lastNumber (a ∷ bs) ≡ lastNumber bs
 last-of-more a [] h = absurd (omega arith)
 last-of-more a (b ∷ bs) h =
     let e : suc (suc (length bs)) - 1 ≡ suc (length bs) = omega arith in
     let f : suc (length bs) - 1 ≡ length bs = omega arith in
     rw (e, f)
 
-module _ (start : Machine) (from : Locked start) (g h : List ℕ) (equal : length g ≡ length h) where
+module _ (start : Machine) (from : Start start) (g h : List ℕ) (equal : length g ≡ length h) where
   -- a first step that did not enter, before runs that agree
-  before-more : (a b : Answer) (r q : Run) → a ≡ b → 0 < length (r .answers) → Agree start g h r q
-      → Agree start g h (record { machine = r .machine; memory = r .memory; answers = a ∷ r .answers })
-      (record { machine = q .machine; memory = q .memory; answers = b ∷ q .answers })
+  before-more : (a b : Event) (r q : Run) → a ≡ b → 0 < length (answersOf r) → Agree start g h r q
+      → Agree start g h (preceded a r) (preceded b q)
   before-more a b r q e more c =
-      let l = last-of-more a (r .answers) more in
+      let l = last-of-more (a .answer) (answersOf r) more in
       record {
-        answers = cc (e, c .answers);
+        events = cc (e, c .events);
         machine = c .machine;
         main = c .main;
         settings = c .settings;
@@ -214,21 +216,25 @@ module _ (start : Machine) (from : Locked start) (g h : List ℕ) (equal : lengt
       = ap (λ (l : List ℕ). memories l (y .management)) (sym (a .main)) ∙ ap (memories (x .main)) (a .second) in
       rw (← a .machine, f, e) (step-one start from g h (x .main) m held s equal none)
 
-  all : (ss : List Step) (m n : Machine) (x y : Memories) → Apart m n x y → Held start m → NoReset ss → UpToEntry (run m x ss .answers)
+  -- of which a step then notes the same
+  noted-same : {m n : Machine} {r q : Stepped} (s : Step) → m ≡ n → r ≡ q → event s (m .inside) (r .answer) ≡ event s (n .inside) (q .answer)
+  noted-same s e f = λ i. event s (e i .inside) (f i .answer)
+
+  all : (ss : List Step) (m n : Machine) (x y : Memories) → Apart m n x y → Held start m → NoReset ss → UpToEntry (answersOf (run m x ss))
       → Agree start g h (run m x ss) (run n y ss)
   unfolding run
   all [] m n x y a held none up = record {
-    answers = refl;
+    events = refl;
     machine = a .machine;
     main = a .main;
     settings = held .settings;
     before = λ k. (a .first, a .second);
-    entered = not-entered Done refl;
+    entered = λ k. absurd (omega arith);
   }
   all (s ∷ []) m n x y a held none up =
       let c = step-apart s m n x y a held (none 0 (omega arith)) in
       record {
-        answers = ap (λ (r : Stepped). r .answer ∷ []) (c .same);
+        events = ap (λ (e : Event). e ∷ []) (noted-same s (a .machine) (c .same));
         machine = ap (λ (r : Stepped). r .machine) (c .same);
         main = c .main;
         settings = c .settings;
@@ -242,8 +248,9 @@ module _ (start : Machine) (from : Locked start) (g h : List ℕ) (equal : lengt
       let b = c .before (up 0 (omega arith)) in
       let a′ : Apart (o .stepped .machine) (p .stepped .machine) (o .memory) (p .memory)
       = record { machine = ap (λ (r : Stepped). r .machine) (c .same); main = c .main; first = b .0; second = b .1 } in
-      before-more (o .stepped .answer) (p .stepped .answer) (run (o .stepped .machine) (o .memory) (t ∷ ss))
-      (run (p .stepped .machine) (p .memory) (t ∷ ss)) (ap (λ (r : Stepped). r .answer) (c .same)) (omega arith)
+      before-more (event s (m .inside) (o .stepped .answer)) (event s (n .inside) (p .stepped .answer))
+      (run (o .stepped .machine) (o .memory) (t ∷ ss)) (run (p .stepped .machine) (p .memory) (t ∷ ss))
+      (noted-same s (a .machine) (c .same)) (omega arith)
       (all (t ∷ ss) (o .stepped .machine) (p .stepped .machine) (o .memory) (p .memory) a′
       (record { outside = b .2; settings = c .settings }) (λ i l. none (suc i) (omega arith)) (λ i l. up (suc i) (omega arith)))
 
@@ -252,7 +259,7 @@ module _ (start : Machine) (from : Locked start) (g h : List ℕ) (equal : lengt
   cut false us vs f = f refl
 
   through : (ss : List Step) (m n : Machine) (x y : Memories) → Apart m n x y → Held start m → NoReset ss
-      → throughEntry (run m x ss .answers) ≡ throughEntry (run n y ss .answers)
+      → throughEntry (answersOf (run m x ss)) ≡ throughEntry (answersOf (run n y ss))
   unfolding run throughEntry
   through [] m n x y a held none = refl
   through (s ∷ ss) m n x y a held none =
@@ -262,7 +269,7 @@ module _ (start : Machine) (from : Locked start) (g h : List ℕ) (equal : lengt
       rw (← c .same)
       (ap (λ (l : List Answer). o .stepped .answer ∷ l)
       (cut (eqb (numberOf (o .stepped .answer)) 11) _ _
-      (λ e. let b = c .before (not-entered (o .stepped .answer) e) in
+      (λ e. let b = c .before (eqb-false (numberOf (o .stepped .answer)) 11 e) in
       through ss (o .stepped .machine) (o .stepped .machine) (o .memory) (p .memory)
       (record { machine = refl; main = c .main; first = b .0; second = b .1 })
       (record { outside = b .2; settings = c .settings }) (λ i l. none (suc i) (omega arith)))))

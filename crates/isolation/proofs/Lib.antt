@@ -1,7 +1,9 @@
 pub mod Cases
-pub mod Ports
+pub mod Answers
+pub mod Doing
 pub mod Refusals
 pub mod Entering
 pub mod Service
 pub mod Isolation
 pub mod Tightness
+pub mod Examples

@@ -1,111 +1,160 @@
 -- Demand 2. Assumes nothing.
 use mathlib.Core.Path.{_≡_, refl, sym, ap, subst, _∙_}
-use mathlib.Core.Bool.{true, false}
-use Prim.Native.Nat.{ℕ, _+_, _≤_}
+use mathlib.Core.Bool.{Bool, true, false}
+use Prim.Native.Nat.{ℕ, _+_, _*_, _^_, _≤_, _<_}
 use native.Mathlib.Omega.{arith}
+use lib.Dec.{eqb}
 use lib.ListN.{length}
 use lib.Seq.{length-sets}
 use Rattle.memory.specs.Memory.{Memories}
+use Rattle.steps.specs.declared.Transfer.{Transfer}
+use Rattle.steps.specs.declared.Interruption.{Interruption}
+use Rattle.steps.specs.declared.Interruption.the-variants.{None, Input, Output, StringInput, StringOutput, RepInput, RepOutput}
 use Rattle.steps.specs.declared.Step.{Step}
-use Rattle.steps.specs.declared.Step.the-variants.{Reset, Registers, Read, Write, PortRead, PortWrite, Opcode, Boundary, UnnamedBoundary, Halt, Wake}
+use Rattle.steps.specs.declared.Step.the-variants.{Opcode, Boundary}
+use Rattle.steps.specs.Widths.{TransferFits, InterruptionFits, StepFits}
+use Rattle.refusals.specs.declared.Verdict.{Verdict}
+use Rattle.refusals.specs.declared.Verdict.the-variants.{Allowed}
+use Rattle.refusals.specs.Refusals.{wrongSizes, malformedOn, programWhileHalted, firstRefusal}
+use Rattle.refusals.proofs.Laws.{taken-allowed}
 use Rattle.config.specs.Settings.{headerPlace}
-use Rattle.config.proofs.Lock.{place-fits}
-use Rattle.header.specs.Header.{headerBytes, headed, withEip}
+use Rattle.header.specs.Header.{sizeBits, portSize, cut, trapOf, headerBytes, headed, withEip}
 use Rattle.header.specs.Entry.{entryRegisters}
 use Rattle.header.specs.ReadBack.{SavedFits}
 use Rattle.header.proofs.ReadBack.{registers-back}
-use Rattle.opcodes.specs.declared.Operation.the-variants.{Rsm}
-use Rattle.opcodes.specs.Decode.{decoded}
+use Rattle.opcodes.specs.Decode.{operationOf}
 use Rattle.machine.specs.declared.Machine.{Machine}
-use Rattle.machine.specs.Outcomes.{Outcome, ends, over}
-use Rattle.machine.specs.Service.{settingsOf, entry, enteredMachine, resume, permitted}
-use Rattle.access.specs.Access.{wrongSizes, malformedOn, programWhileHalted}
-use Rattle.machine.specs.Steps.{valid, operated, opcode, performed, stepped}
-use Rattle.isolation.specs.Service.{savedBy, latchAfter, Entry, EntersAsStated, Resume, ResumesAsEntered}
-use Rattle.isolation.proofs.Entering.{only-header, Enters, enters}
+use Rattle.machine.specs.Outcomes.{Outcome, ends}
+use Rattle.machine.specs.Service.{settingsOf, enteredMachine, entry, taken, boundaryStep, resume}
+use Rattle.machine.specs.Steps.{permitted, valid, operated, opcodeStep, performed, decided, stepped}
+use Rattle.machine.specs.Widths.{MachineFits}
+use Rattle.isolation.specs.Service.{Entering, recorded, latchAfter, SmiEnters, SmintEnters, Entry, EntersAsStated, Resume, ResumesAsEntered}
+use Rattle.isolation.specs.Service.Entering.{at-boundary, by-smint}
+use Rattle.isolation.proofs.Cases.{either}
+use Rattle.isolation.proofs.Doing.{Able}
+use Rattle.isolation.proofs.Entering.{only-header, room, Enters, enters}
 
-module _ (m : Machine) (x : Memories) (s : Step) where
-  place : {o : Outcome} → Enters m x s o → headerPlace (settingsOf m) + 48 ≤ length (x .management)
-  place e = let l = e .sized .management in omega (arith, place-fits (settingsOf m) (e .usable))
+-- a step that is allowed is performed
+pub performs : (m : Machine) (x : Memories) (s : Step) → firstRefusal (m .halted) x s ≡ Allowed → stepped m x s ≡ performed m x s
+unfolding stepped
+performs m x s e = ap (decided m x s) e
 
-  entry-stated : {o : Outcome} → Enters m x s o → Entry m x s (over x (entry m (x .management) (savedBy m s) (latchAfter m s)))
-  unfolding entry enteredMachine entryRegisters
-  entry-stated e = record {
-    by = e .by;
-    eip = refl;
-    eflags = refl;
-    dr7 = refl;
-    cr0 = refl;
-    cs = refl;
-    level = refl;
-    writable = refl;
-    halted = refl;
-    inside = refl;
-    latched = refl;
-    segments = refl;
-    config = refl;
-    main = refl;
-    management = only-header (x .management) (headerPlace (settingsOf m)) (savedBy m s) (place e);
-  }
+-- ---- which steps enter
+
+pub smi-enters : SmiEnters
+unfolding performed boundaryStep taken entry
+smi-enters m x smi current i may outside on asked = rw (performs m x (Boundary smi current i) may, outside, on, asked)
+
+pub smint-enters : SmintEnters
+unfolding performed opcodeStep operated entry
+smint-enters m x op modrm a next may d v = rw (performs m x (Opcode op modrm a next) may, d, v)
+
+-- ---- what entry writes and loads
 
 pub enters-as-stated : EntersAsStated
+unfolding entry enteredMachine entryRegisters
 enters-as-stated m x s h =
     let e = enters m x s h in
-    subst (Entry m x s) (sym (e .outcome)) (entry-stated m x s e)
+    rw (e .outcome)
+    (record {
+      by = e .by;
+      eip = refl;
+      eflags = refl;
+      dr7 = refl;
+      cr0 = refl;
+      cs = refl;
+      level = refl;
+      writable = refl;
+      halted = refl;
+      inside = refl;
+      latched = refl;
+      segments = refl;
+      config = refl;
+      main = refl;
+      management = only-header (x .management) (headerPlace (settingsOf m)) (recorded m (e .by)) (room m x (e .able));
+    })
 
-saved-registers : (m : Machine) (s : Step) → savedBy m s .registers ≡ m .registers
-saved-registers m Reset = refl
-saved-registers m (Registers eip eflags cr0 dr7 selector descriptor level writable) = refl
-saved-registers m (Read width a) = refl
-saved-registers m (Write width a v) = refl
-saved-registers m (PortRead port) = refl
-saved-registers m (PortWrite port v) = refl
-saved-registers m (Opcode op modrm a next) = refl
-saved-registers m (Boundary smi current i) = refl
-saved-registers m UnnamedBoundary = refl
-saved-registers m Halt = refl
-saved-registers m Wake = refl
+-- ---- the numbers that are recorded have the header's widths
 
--- RSM where it is taken
-rsm-operates : (m : Machine) (x : Memories) (a next : ℕ) → m .inside ≡ true → permitted m ≡ true
-    → opcode m x Rsm a next ≡ ends (resume m (x .management)) x
-unfolding opcode valid operated
-rsm-operates m x a next inside may = rw (may, inside)
+transfer-fits : (t : Transfer) → TransferFits t → portSize t < 2 ^ 32
+unfolding sizeBits
+transfer-fits t f =
+    let P : ℕ → Type 0 = λ n. t .port + 65536 * n < 2 ^ 32 in
+    let h = f .port in
+    either P (eqb (t .size) 1) (λ k. omega arith) (λ k. either P (eqb (t .size) 2) (λ l. omega arith) (λ l. omega arith))
 
--- a step that no refusal of 1 to 3 stops
-pub performs : (m : Machine) (x : Memories) (s : Step) → wrongSizes x ≡ false → malformedOn (m .halted) s ≡ false → programWhileHalted (m .halted) s ≡ false
-    → stepped m x s ≡ performed m x s
-unfolding stepped
-performs m x s sizes formed awake = rw (sizes, formed, awake)
+cut-fits : (t : Transfer) → TransferFits t → cut t < 2 ^ 32
+unfolding cut
+cut-fits t f =
+    let P : ℕ → Type 0 = λ n. n < 2 ^ 32 in
+    either P (eqb (t .size) 1) (λ k. omega arith) (λ k. either P (eqb (t .size) 2) (λ l. omega arith) (λ l. f .value))
+
+trap-fits : (i : Interruption) → InterruptionFits i → (trapOf i .transfer < 2 ^ 32) × (trapOf i .value < 2 ^ 32) × (trapOf i .index < 2 ^ 32)
+trap-fits None f = (omega arith, omega arith, omega arith)
+trap-fits Input f = (omega arith, omega arith, omega arith)
+trap-fits (Output t) f = (transfer-fits t f, cut-fits t f, omega arith)
+trap-fits (StringInput index) f = (omega arith, omega arith, f)
+trap-fits (StringOutput t index) f = (transfer-fits t (f .0), cut-fits t (f .0), f .1)
+trap-fits (RepInput index) f = (omega arith, omega arith, f)
+trap-fits (RepOutput t index) f = (transfer-fits t (f .0), cut-fits t (f .0), f .1)
+
+recorded-fits : (m : Machine) {s : Step} (by : Entering s) → MachineFits m → StepFits s → SavedFits (recorded m by)
+recorded-fits m (at-boundary {smi} {current} {i}) f w =
+    let r = f .registers in
+    let k = trap-fits i (w .2) in
+    record {
+      registers = r;
+      current = either (λ (n : ℕ). n < 2 ^ 32) (m .halted) (λ h. r .eip) (λ h. w .1);
+      next = r .eip;
+      transfer = k .0;
+      value = k .1;
+      index = k .2;
+    }
+recorded-fits m (by-smint {op} {modrm} {a} {next} e) f w =
+    let r = f .registers in
+    record { registers = r; current = r .eip; next = w .3; transfer = omega arith; value = omega arith; index = omega arith }
+
+-- ---- what RSM loads back
+
+-- a step enters in one way only, and records the registers
+same-registers : (m : Machine) {s : Step} (by : Entering s) → recorded m by .registers ≡ m .registers
+same-registers m at-boundary = refl
+same-registers m (by-smint e) = refl
+
+same-next : (m : Machine) {s : Step} (by by′ : Entering s) → recorded m by .next ≡ recorded m by′ .next
+same-next m at-boundary at-boundary = refl
+same-next m (by-smint e) (by-smint e′) = refl
 
 rsm-resumes : (m : Machine) (x : Memories) (modrm a next : ℕ)
     → wrongSizes x ≡ false → m .halted ≡ false → m .inside ≡ true → permitted m ≡ true
     → stepped m x (Opcode 0xaa modrm a next) ≡ ends (resume m (x .management)) x
-unfolding malformedOn programWhileHalted performed decoded
+unfolding malformedOn programWhileHalted performed opcodeStep operationOf valid operated
 rsm-resumes m x modrm a next sizes awake inside may =
-    performs m x (Opcode 0xaa modrm a next) sizes (rw awake) (rw awake) ∙ rsm-operates m x a next inside may
+    let s = Opcode 0xaa modrm a next in
+    performs m x s (taken-allowed (m .halted) x s (record { sizes = sizes; formed = rw awake; awake = rw awake })) ∙ rw (may, inside)
 
-module _ (m : Machine) (x : Memories) (s : Step) {o : Outcome} (e : Enters m x s o) (modrm a next : ℕ) (f : SavedFits (savedBy m s)) where
+module _ (m : Machine) (x : Memories) (s : Step) (by by′ : Entering s) (able : Able m x) (modrm a next : ℕ)
+    (fits : SavedFits (recorded m by)) where
   abbrev inside : Outcome
-  inside = over x (entry m (x .management) (savedBy m s) (latchAfter m s))
+  inside = entry m x (recorded m by) (latchAfter m by)
 
   sizes-kept : wrongSizes (inside .memory) ≡ false
   unfolding wrongSizes entry headed
-  sizes-kept =
-      rw (e .sized .main, length-sets (x .management) (headerPlace (settingsOf m)) (headerBytes (savedBy m s)), e .sized .management)
+  sizes-kept = rw (length-sets (x .management) (headerPlace (settingsOf m)) (headerBytes (recorded m by))) (able .sizes)
 
   may-resume : permitted (inside .stepped .machine) ≡ true
   unfolding permitted entry enteredMachine entryRegisters
-  may-resume = rw (e .on, e .usable)
+  may-resume = rw (able .on, able .usable)
 
-  resume-stated : Resume m s inside (stepped (inside .stepped .machine) (inside .memory) (Opcode 0xaa modrm a next))
+  resume-stated : Resume m s by′ inside (stepped (inside .stepped .machine) (inside .memory) (Opcode 0xaa modrm a next))
   unfolding entry enteredMachine resume
   resume-stated =
       rw (rsm-resumes (inside .stepped .machine) (inside .memory) modrm a next sizes-kept refl refl may-resume)
       (record {
         answer = refl;
-        registers = registers-back (x .management) (headerPlace (settingsOf m)) (savedBy m s) (place m x s e) f
-            ∙ ap (λ r. withEip r (savedBy m s .next)) (saved-registers m s);
+        registers =
+            registers-back (x .management) (headerPlace (settingsOf m)) (recorded m by) (room m x able) fits
+            ∙ rw (same-registers m by, same-next m by by′);
         halted = refl;
         inside = refl;
         latched = refl;
@@ -115,6 +164,6 @@ module _ (m : Machine) (x : Memories) (s : Step) {o : Outcome} (e : Enters m x s
       })
 
 pub resumes-as-entered : ResumesAsEntered
-resumes-as-entered m x s modrm a next h f =
+resumes-as-entered m x s modrm a next f w h by =
     let e = enters m x s h in
-    rw (e .outcome) (resume-stated m x s e modrm a next f)
+    rw (e .outcome) (resume-stated m x s (e .by) by (e .able) modrm a next (recorded-fits m (e .by) f w))

@@ -24,7 +24,8 @@ run m x [] = record { machine = m; memory = x; events = [] }
 run m x (s ∷ ss) =
     let o = stepped m x s in
     let r = run (o .stepped .machine) (o .memory) ss in
-    record { machine = r .machine; memory = r .memory; events = event s (m .inside) (o .stepped .answer) ∷ r .events }
+    let e = event s (m .inside) (o .stepped .answer) in
+    record { machine = r .machine; memory = r .memory; events = e ∷ r .events }
 
 abbrev pub answersOf : Run → List Answer
 answersOf r = map (λ (e : Event). e .answer) (r .events)

@@ -1,0 +1,59 @@
+-- What answers are by their numbers, and what ports and boundaries answer and leave. Assumes nothing.
+use mathlib.Core.Path.{_≡_, refl}
+use mathlib.Core.Bool.{Bool, true, false, _&&_}
+use Prim.Native.Nat.{ℕ}
+use lib.Dec.{eqb}
+use Rattle.steps.specs.declared.Answer.{Answer}
+use Rattle.steps.specs.Answers.{numberOf, refusal}
+use Rattle.config.specs.declared.Config.{Config}
+use Rattle.config.specs.declared.Accessed.{Accessed}
+use Rattle.config.specs.Settings.{smiLock, SameLocked}
+use Rattle.config.specs.Ports.{answering, indexed, internal, portRead, portWrite}
+use Rattle.config.proofs.Lock.{locked-refl, written-locked}
+use Rattle.machine.specs.declared.Machine.{Machine}
+use Rattle.machine.specs.declared.Stepped.{Stepped}
+use Rattle.machine.specs.Service.{passed}
+use Rattle.isolation.proofs.Cases.{either, unlike}
+
+-- an answer that is neither a refusal nor "entered"
+pub record Plain (a : Answer) : Type 0 where
+  pub taken : refusal a ≡ false
+  pub other : eqb (numberOf a) 11 ≡ false
+
+pub plain : {a : Answer} → refusal a ≡ false → eqb (numberOf a) 11 ≡ false → Plain a
+plain t o = record { taken = t; other = o }
+
+module _ (c : Config) where
+  -- a port read gives a plain answer and leaves the settings
+  pub read-keeps : (port : ℕ) → let p = portRead c port in Plain (p .answer) × (p .config .settings ≡ c .settings)
+  unfolding portRead
+  read-keeps port =
+      let P : Accessed → Type 0 = λ p. Plain (p .answer) × (p .config .settings ≡ c .settings) in
+      either P (eqb port 0x23 && c .armed)
+      (λ h. either (λ (a : Answer). P (answering (indexed (c .settings) (c .index) false) a)) (internal (c .index))
+      (λ k. (plain refl refl, refl)) (λ k. (plain refl refl, refl)))
+      (λ h. (plain refl refl, refl))
+
+  -- a port write too, outside the mode with the lock set as far as the lock reaches
+  pub write-keeps : (port v : ℕ) (inside : Bool) → let p = portWrite c port v inside in
+      Plain (p .answer) × (inside ≡ false → smiLock (c .settings) ≡ true → SameLocked (p .config .settings) (c .settings))
+  unfolding portWrite
+  write-keeps port v inside =
+      let P : Accessed → Type 0
+      = λ p. Plain (p .answer) × (inside ≡ false → smiLock (c .settings) ≡ true → SameLocked (p .config .settings) (c .settings)) in
+      either P (eqb port 0x22) (λ h. (plain refl refl, λ o l. locked-refl))
+      (λ h. either P (eqb port 0x23 && c .armed)
+      (λ k. either P (internal (c .index))
+      (λ n. (plain refl refl, λ o l. rw o (written-locked (c .settings) (c .index) v l)))
+      (λ n. (plain refl refl, λ o l. locked-refl)))
+      (λ k. (plain refl refl, λ o l. locked-refl)))
+
+-- a boundary that takes no SMI gives a plain answer and, outside the mode, leaves the machine
+pub passes : (m : Machine) (asserted : Bool)
+    → let r = passed m asserted in Plain (r .answer) × (m .inside ≡ false → r .machine ≡ m)
+unfolding passed
+passes m asserted =
+    let P : Stepped → Type 0 = λ r. Plain (r .answer) × (m .inside ≡ false → r .machine ≡ m) in
+    either P asserted
+    (λ h. either P (m .inside) (λ k. (plain refl refl, λ o. unlike k o)) (λ k. (plain refl refl, λ o. refl)))
+    (λ h. (plain refl refl, λ o. refl))

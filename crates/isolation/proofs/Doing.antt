@@ -1,0 +1,111 @@
+-- What every step does: it is refused, it enters, or neither. Demands 1 and 2 both read it off. Assumes nothing.
+use mathlib.Core.Path.{_≡_, refl}
+use mathlib.Core.Bool.{Bool, true, false, cond, not, _&&_, _||_, and-false, and-eq-true-iff}
+use Prim.Native.Nat.{ℕ}
+use lib.Dec.{eqb}
+use Rattle.region.specs.Region.{usable}
+use Rattle.memory.specs.Memory.{Memories, Reached, there, operandLength, reads, writes}
+use Rattle.steps.specs.declared.Answer.{Answer}
+use Rattle.steps.specs.declared.Answer.the-variants.{WrongSize, Malformed, WhileHalted, Invalid, Absent}
+use Rattle.steps.specs.declared.Step.{Step}
+use Rattle.steps.specs.declared.Step.the-variants.{Reset, Registers, Read, Write, PortRead, PortWrite, Opcode, Boundary, UnnamedBoundary, Halt, Wake}
+use Rattle.steps.specs.declared.Interruption.{Interruption}
+use Rattle.steps.specs.Answers.{numberOf, refusal}
+use Rattle.refusals.specs.declared.Verdict.{Verdict}
+use Rattle.refusals.specs.Refusals.{wrongSizes, malformedOn, programWhileHalted, firstRefusal}
+use Rattle.refusals.proofs.Laws.{Taken}
+use Rattle.config.specs.Settings.{useSmi, regionIn, enabled}
+use Rattle.opcodes.specs.declared.Operation.{Operation}
+use Rattle.opcodes.specs.declared.Operation.the-variants.{Save, Restore, Smint, Rsm, Undefined}
+use Rattle.opcodes.specs.Decode.{operationOf}
+use Rattle.machine.specs.declared.Machine.{Machine}
+use Rattle.machine.specs.declared.Stepped.{Stepped}
+use Rattle.machine.specs.Outcomes.{Outcome, gives, ends, refused}
+use Rattle.machine.specs.Service.{settingsOf, entry, taken, boundaryStep, resume}
+use Rattle.machine.specs.Steps.{window, permitted, valid, saved, restored, operated, opcodeStep, performed, decided, stepped}
+use Rattle.isolation.specs.Refusals.{invalidOpcode, hasOperand, absentByte, calledFor}
+use Rattle.isolation.specs.Service.{Entering, recorded, latchAfter}
+use Rattle.isolation.specs.Service.Entering.{at-boundary, by-smint}
+use Rattle.isolation.proofs.Answers.{Plain, plain, read-keeps, write-keeps, passes}
+use Rattle.isolation.proofs.Cases.{both, across, either, unlike}
+
+-- what holds wherever a step enters
+pub record Able (m : Machine) (x : Memories) : Type 0 where
+  pub sizes : wrongSizes x ≡ false
+  pub on : useSmi (settingsOf m) ≡ true
+  pub usable : usable (regionIn (settingsOf m)) ≡ true
+
+-- an outcome of the step s from m and x, and the number that it is refused by, or 0
+pub data Does (m : Machine) (x : Memories) (s : Step) : Outcome → ℕ → Type 0 where
+  refuses : (a : Answer) → refusal a ≡ true → Does m x s (refused m x a) (numberOf a)
+  enters : (by : Entering s) → Able m x → Does m x s (entry m x (recorded m by) (latchAfter m by)) 0
+  neither : (o : Outcome) → Plain (o .stepped .answer) → Does m x s o 0
+
+-- an SMI is taken only where they are enabled
+pub taken-enabled : (m : Machine) (asserted : Bool) → taken m asserted ≡ true → enabled (settingsOf m) ≡ true
+unfolding taken
+taken-enabled m asserted e =
+    let on = enabled (settingsOf m) in
+    and-eq-true-iff (not (m .inside)) on .0 (and-eq-true-iff (not (m .inside) && on) (asserted || m .latched) .0 e .0) .1
+
+module _ (m : Machine) (x : Memories) where
+  operated-does : (op modrm a next : ℕ) (o : Operation) → operationOf op modrm ≡ o → wrongSizes x ≡ false → valid m o ≡ true
+      → Does m x (Opcode op modrm a next) (operated m x o a next) (cond (hasOperand o && not (there (window m) x a operandLength)) 5 0)
+  unfolding operated saved restored resume valid permitted
+  operated-does op modrm a next (Save name) d z e =
+      across (Does m x (Opcode op modrm a next)) (there (window m) x a operandLength)
+      (λ k. Does.neither _ (plain refl refl)) (λ k. Does.refuses Absent refl)
+  operated-does op modrm a next (Restore name) d z e =
+      across (λ (r : Stepped) (n : ℕ). Does m x (Opcode op modrm a next) (ends r x) n) (there (window m) x a operandLength)
+      (λ k. Does.neither _ (plain refl refl)) (λ k. Does.refuses Absent refl)
+  operated-does op modrm a next Smint d z e =
+      let p = and-eq-true-iff _ _ .0 e .0 in
+      let q = and-eq-true-iff _ _ .0 (and-eq-true-iff _ _ .0 p .0) .0 in
+      let r = and-eq-true-iff _ _ .0 q in
+      Does.enters (by-smint d) (record { sizes = z; on = r .0; usable = r .1 })
+  operated-does op modrm a next Rsm d z e = Does.neither _ (plain refl refl)
+  operated-does op modrm a next Undefined d z e = unlike e (and-false (permitted m))
+
+  enabled-able : wrongSizes x ≡ false → enabled (settingsOf m) ≡ true → Able m x
+  unfolding enabled
+  enabled-able z e =
+      let p = and-eq-true-iff _ _ .0 e in
+      record { sizes = z; on = and-eq-true-iff _ _ .0 (p .0) .0; usable = p .1 }
+
+  boundary-does : (smi current : ℕ) (i : Interruption) → wrongSizes x ≡ false
+      → Does m x (Boundary smi current i) (boundaryStep m x (eqb smi 1) current i) 0
+  unfolding boundaryStep
+  boundary-does smi current i z =
+      either (λ (o : Outcome). Does m x (Boundary smi current i) o 0) (taken m (eqb smi 1))
+      (λ k. Does.enters at-boundary (enabled-able z (taken-enabled m (eqb smi 1) k)))
+      (λ k. Does.neither _ (passes m (eqb smi 1) .0))
+
+  performed-does : (s : Step) → Taken (m .halted) x s
+      → Does m x s (performed m x s) (cond (invalidOpcode m s) 4 (cond (absentByte m x s) 5 0))
+  unfolding performed reads writes opcodeStep malformedOn
+  performed-does Reset t = Does.neither _ (plain refl refl)
+  performed-does (Registers eip eflags cr0 dr7 selector descriptor level writable) t = Does.neither _ (plain refl refl)
+  performed-does (Read width a) t =
+      across (λ (r : Answer) (n : ℕ). Does m x (Read width a) (ends (gives m r) x) n) (there (window m) x a width)
+      (λ k. Does.neither _ (plain refl refl)) (λ k. Does.refuses Absent refl)
+  performed-does (Write width a v) t =
+      across (λ (r : Reached) (n : ℕ). Does m x (Write width a v) (ends (gives m (r .answer)) (r .memory)) n) (there (window m) x a width)
+      (λ k. Does.neither _ (plain refl refl)) (λ k. Does.refuses Absent refl)
+  performed-does (PortRead port) t = Does.neither _ (read-keeps (m .config) port .0)
+  performed-does (PortWrite port v) t = Does.neither _ (write-keeps (m .config) port v (m .inside) .0)
+  performed-does (Opcode op modrm a next) t =
+      across (Does m x (Opcode op modrm a next)) (valid m (operationOf op modrm))
+      (λ k. operated-does op modrm a next (operationOf op modrm) refl (t .sizes) k) (λ k. Does.refuses Invalid refl)
+  performed-does (Boundary smi current i) t = boundary-does smi current i (t .sizes)
+  performed-does UnnamedBoundary t = unlike refl (t .formed)
+  performed-does Halt t = Does.neither _ (plain refl refl)
+  performed-does Wake t = Does.neither _ (plain refl refl)
+
+  pub step-does : (s : Step) → Does m x s (stepped m x s) (calledFor m x s)
+  unfolding stepped calledFor firstRefusal
+  step-does s =
+      let P : Verdict → ℕ → Type 0 = λ v n. Does m x s (decided m x s v) n in
+      both P (wrongSizes x) (λ h. Does.refuses WrongSize refl)
+      (λ h. both P (malformedOn (m .halted) s) (λ k. Does.refuses Malformed refl)
+      (λ k. both P (programWhileHalted (m .halted) s) (λ l. Does.refuses WhileHalted refl)
+      (λ l. performed-does s (record { sizes = h; formed = k; awake = l }))))

@@ -1,0 +1,141 @@
+-- The examples. Their management memories are taken as any list of the right length: none is ever written out. Assumes nothing.
+use mathlib.Core.Path.{_≡_, refl, sym, ap, _∙_}
+use mathlib.Core.Bool.{Bool, true, false, and-false}
+use mathlib.Core.List.{List, [], _∷_}
+use Prim.Native.Nat.{ℕ, _<_, _^_}
+use native.Mathlib.Omega.{arith}
+use lib.ListN.{length, replicate, length-replicate}
+use Rattle.region.specs.Region.{regionOf, sizeOf, usable, within}
+use Rattle.fields.specs.Fields.{numberBy}
+use Rattle.memory.specs.Memory.{Memories, memories, absent, allThere}
+use Rattle.steps.specs.declared.Answer.{Answer}
+use Rattle.steps.specs.declared.Answer.the-variants.{Done}
+use Rattle.steps.specs.declared.Interruption.the-variants.{None}
+use Rattle.steps.specs.declared.Step.{Step}
+use Rattle.steps.specs.declared.Step.the-variants.{Reset, Read, PortRead, Opcode, Boundary, UnnamedBoundary, Halt}
+use Rattle.steps.specs.Steps.{isWidth, kindOf}
+use Rattle.refusals.specs.declared.Verdict.the-variants.{Allowed}
+use Rattle.refusals.specs.Refusals.{wrongSizes, malformedOn, programWhileHalted, firstRefusal}
+use Rattle.refusals.proofs.Laws.{taken-allowed}
+use Rattle.config.specs.Settings.{windowOf, enabled}
+use Rattle.opcodes.specs.Decode.{operationOf}
+use Rattle.machine.specs.declared.Machine.{Machine}
+use Rattle.machine.specs.Machines.{machine, withHalted, resetRegisters, resetSegments}
+use Rattle.machine.specs.Outcomes.{ends}
+use Rattle.machine.specs.Steps.{permitted, valid, haltStep, performed, stepped}
+use Rattle.machine.specs.Widths.{SegmentFits, MachineFits}
+use Rattle.runs.specs.Runs.{run, answersOf}
+use Rattle.isolation.specs.Refusals.{calledFor}
+use Rattle.isolation.specs.Service.{answerTo}
+use Rattle.isolation.specs.Isolation.{NoReset, UpToEntry, lastNumber}
+use Rattle.isolation.specs.Examples.{sample, locked, underSmac, stepsToEntry, IsolationExample, EntryExamples, RefusalExamples}
+use Rattle.isolation.proofs.Service.{performs, smi-enters, smint-enters}
+use Rattle.isolation.proofs.Tightness.{no-reset-asked, up-to-entry-asked}
+
+-- the boundary that enters, and its answer on the machine as it is left by a halt
+abbrev entering : Step
+entering = Boundary 1 0x1000 None
+
+module _ (g : List ℕ) (long : length g ≡ 65536) where
+  abbrev x : Memories
+  x = memories [] g
+
+  whole : wrongSizes x ≡ false
+  unfolding wrongSizes
+  whole = rw long
+
+  allowed : (halted : Bool) (s : Step) → malformedOn halted s ≡ false → programWhileHalted halted s ≡ false → firstRefusal halted x s ≡ Allowed
+  allowed halted s formed awake = taken-allowed halted x s (record { sizes = whole; formed = formed; awake = awake })
+
+  called-for : (calledFor locked x Halt ≡ 0)
+      × (calledFor locked x UnnamedBoundary ≡ 2)
+      × (calledFor (withHalted locked true) x (PortRead 0x22) ≡ 3)
+      × (calledFor locked x (Opcode 0xaa 0 0 0) ≡ 4)
+      × (calledFor locked x (Read 4 0) ≡ 5)
+  unfolding calledFor malformedOn programWhileHalted operationOf valid permitted windowOf within usable regionOf sizeOf absent allThere isWidth
+  called-for = (rw whole, rw whole, rw whole, rw whole, rw whole)
+
+  enters-at-boundary : (halted : Bool) → answerTo (withHalted locked halted) x entering ≡ 11
+  unfolding malformedOn programWhileHalted enabled usable regionOf sizeOf
+  enters-at-boundary halted =
+      smi-enters (withHalted locked halted) x 1 0x1000 None (allowed halted entering (and-false halted) (and-false halted)) refl refl refl
+
+  enters-by-smint : answerTo underSmac x (Opcode 0x7e 0 0 0x1002) ≡ 11
+  unfolding malformedOn programWhileHalted operationOf valid permitted usable regionOf sizeOf
+  enters-by-smint = smint-enters underSmac x 0x7e 0 0 0x1002 (allowed false (Opcode 0x7e 0 0 0x1002) refl refl) refl refl
+
+  halts : stepped locked x Halt ≡ ends (haltStep locked) x
+  unfolding malformedOn programWhileHalted performed
+  halts = performs locked x Halt (allowed false Halt refl refl)
+
+  answers : answersOf (run locked x stepsToEntry) ≡ Done ∷ stepped (withHalted locked true) x entering .stepped .answer ∷ []
+  unfolding run
+  answers = rw halts
+
+  ends-at-entry : UpToEntry (answersOf (run locked x stepsToEntry))
+  ends-at-entry = rw answers (up-to-entry-asked .1 Done _ [] (λ e. omega arith) (up-to-entry-asked .0 _))
+
+  enters-last : lastNumber (answersOf (run locked x stepsToEntry)) ≡ 11
+  enters-last = rw answers (enters-at-boundary true)
+
+full : (b : ℕ) → length (replicate 65536 b) ≡ 65536
+full b = length-replicate 65536 b
+
+pub refusal-examples : RefusalExamples
+unfolding calledFor wrongSizes
+refusal-examples =
+    let c = called-for (replicate 65536 0) (full 0) in
+    (c .0, refl, c .1, c .2, c .3, c .4)
+
+flat-fits : SegmentFits (resetSegments .ds)
+unfolding numberBy
+flat-fits = record { selector = omega arith; descriptor = omega arith }
+
+none-fits : SegmentFits (resetSegments .tr)
+none-fits = record { selector = omega arith; descriptor = omega arith }
+
+sample-fits : (ccr1 ccr3 : ℕ) → ccr1 < 2 ^ 8 → ccr3 < 2 ^ 8 → MachineFits (sample ccr1 ccr3)
+unfolding numberBy
+sample-fits ccr1 ccr3 h k = record {
+  registers = record {
+    eip = omega arith;
+    eflags = omega arith;
+    cr0 = omega arith;
+    dr7 = omega arith;
+    selector = omega arith;
+    descriptor = omega arith;
+  };
+  segments = record { ds = flat-fits; es = flat-fits; fs = flat-fits; gs = flat-fits; ss = flat-fits; ldtr = none-fits; tr = none-fits };
+  settings = record { ccr1 = h; ccr3 = k; high = omega arith; middle = omega arith; low = omega arith };
+  index = omega arith;
+}
+
+pub entry-examples : EntryExamples
+entry-examples = (
+  record {
+    machine = sample-fits 0x02 0x01 (omega arith) (omega arith);
+    step = (omega arith, omega arith, tt);
+    entered = enters-at-boundary (replicate 65536 0) (full 0) false;
+  },
+  record {
+    machine = sample-fits 0x06 0x01 (omega arith) (omega arith);
+    step = (omega arith, omega arith, omega arith, omega arith);
+    entered = enters-by-smint (replicate 65536 0) (full 0);
+  },
+)
+
+steps-none : NoReset stepsToEntry
+steps-none =
+    let more = no-reset-asked .1 in
+    more Halt (entering ∷ []) (λ e. let k = ap kindOf e in omega arith)
+    (more entering [] (λ e. let k = ap kindOf e in omega arith) (no-reset-asked .0))
+
+pub isolation-example : IsolationExample
+isolation-example = record {
+  start = record { outside = refl; locked = refl; closed = refl };
+  none = steps-none;
+  equal = full 0 ∙ sym (full 1);
+  first = ends-at-entry (replicate 65536 0) (full 0);
+  second = ends-at-entry (replicate 65536 1) (full 1);
+  entered = enters-last (replicate 65536 0) (full 0);
+}
