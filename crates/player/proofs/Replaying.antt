@@ -6,7 +6,6 @@ use native.Mathlib.Nat.{min-eq-left}
 use native.Mathlib.Omega.{arith}
 use borrow.Author.Tests.{le-leb, lt-leb}
 use lib.ListN.{length, take, length-map}
-use lib.Seq.{sets}
 use Rattle.fields.proofs.Storing.{stored-front}
 use Rattle.memory.specs.Memory.{Memories}
 use Rattle.events.specs.Events.{noted}
