@@ -1,11 +1,11 @@
-use Rattle.export.specs.Export.{reasonNumber}
 use mathlib.Core.Path.{ap, _∙_}
 use borrow.Author.Needs.{needs}
+use Rattle.export.specs.Export.{reasonNumber}
 use Rattle.export.proofs.rostuvlad_replay.Statement.{statement}
 use Rattle.export.proofs.rostuvlad_replay.Tie as tie
 
-reset-requires : tie.Need-reset-requires
-reset-requires c κs = search needs
+initial-requires : tie.Need-initial-requires
+initial-requires c κs = search needs
 
 play-requires : tie.Need-play-requires
 play-requires c κs = search needs
@@ -20,19 +20,16 @@ same-length-2 : tie.Need-same-length-2
 same-length-2 c = search needs
 
 returns : tie.Need-returns
-returns c = let e = rw ((c .before .before .before .before .before .before .before .before .before .before .reset .ensures)) at ((c .before .before .before .before .before .play .ensures)) in record {
-  count-is = e .count-is;
-  reason-is = (c .reason-number .ensures) ∙ ap reasonNumber (e .reason-is);
-  memory-is = e .memory-is;
-  numbers-are = e .numbers-are;
-  values-are = e .values-are;
-}
+returns c =
+    let played = c .before .before .before .before .before in
+    let w = rw (played .before .before .before .before .initial .ensures) at (played .play .ensures) in
+    (w .leaves, c .reason-number .ensures ∙ ap reasonNumber (w .reason-is))
 
 pub rostuvlad-replay-spec : {M : Type 1} → statement M
 rostuvlad-replay-spec =
     tie.close
     (tie.spec
-    reset-requires
+    initial-requires
     play-requires
     reason-number-requires
     same-length

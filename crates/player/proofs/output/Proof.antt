@@ -1,5 +1,6 @@
-use Rattle.player.proofs.Replaying.{prints-long, prints-text}
+use native.Mathlib.Omega.{arith}
 use borrow.Author.Needs.{needs}
+use Rattle.player.proofs.Replaying.{prints-long, prints-text}
 use Rattle.player.proofs.output.Statement.{statement}
 use Rattle.player.proofs.output.Tie as tie
 
@@ -7,10 +8,10 @@ write-long-requires : tie.Need-write-long-requires
 write-long-requires c κs = search needs
 
 returns : tie.Need-returns
-returns c = prints-long _ (c .before .before .if1 .taken) (c .write-long .ensures)
+returns c = prints-long _ (omega arith) (c .write-long .ensures)
 
-reset-requires : tie.Need-reset-requires
-reset-requires c κs = search needs
+initial-requires : tie.Need-initial-requires
+initial-requires c κs = search needs
 
 slice-aggregate-replay : tie.Need-slice-aggregate-replay
 slice-aggregate-replay c = search needs
@@ -22,7 +23,10 @@ replay-requires : tie.Need-replay-requires
 replay-requires c κs = search needs
 
 returns-2 : tie.Need-returns-2
-returns-2 c = prints-text _ (c .before .before .before .before .before .before .before .if1 .left) (c .before .before .before .before .before .before .reset .ensures) (c .before .before .replay .ensures)
+returns-2 c =
+    let replayed = c .before .before in
+    let started = replayed .before .before .before .before in
+    prints-text _ (omega arith) (started .initial .ensures) (replayed .replay .ensures .0)
 
 pub output-spec : {M : Type 1} → statement M
 output-spec =
@@ -30,7 +34,7 @@ output-spec =
     (tie.spec
     write-long-requires
     returns
-    reset-requires
+    initial-requires
     slice-aggregate-replay
     slice-aggregate-replay-2
     replay-requires

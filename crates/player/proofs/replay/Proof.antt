@@ -1,6 +1,7 @@
-use Rattle.player.proofs.Replaying.{replays}
-use mathlib.Core.Path.{refl}
+use Prim.Native.Nat.{ℕ}
 use borrow.Author.Needs.{needs}
+use lib.ListN.{length-replicate}
+use Rattle.player.proofs.Replaying.{writes-text}
 use Rattle.player.proofs.replay.Statement.{statement}
 use Rattle.player.proofs.replay.Tie as tie
 
@@ -17,7 +18,9 @@ same-length-2 : tie.Need-same-length-2
 same-length-2 c = search needs
 
 returns : tie.Need-returns
-returns c = replays _ _ _ _ _ _ _ _ _ _ 10000 refl (c .before .before .before .before .before .before .before .before .play .ensures) (c .write .ensures)
+returns c =
+    let w = c .before .before .before .before .before .before .before .play .ensures in
+    (writes-text _ _ _ (length-replicate {A = ℕ} 10000 0) w (c .write .ensures), w .leaves .memory-is)
 
 pub replay-spec : {M : Type 1} → statement M
 replay-spec = tie.close (tie.spec play-requires write-requires same-length same-length-2 returns)
