@@ -5,11 +5,13 @@ ghost use Prim.Native.Nat.{ℕ};
 ghost use lib.Dec.{eqb};
 ghost use Rattle.memory.specs.Memory.{memories};
 ghost use Rattle.steps.specs.Steps.{isWidth, malformed};
+ghost use Rattle.opcodes.specs.Decode.{operationOf};
+ghost use Rattle.opcodes.specs.declared.Operation.the-variants.{Undefined};
 ghost use Rattle.machine.specs.Machines.{withRegisters, withHalted, withLatched, withSegments, segmentIn, withSegment, segment, resetMachine};
 ghost use Rattle.machine.specs.Outcomes.{gives, ends};
 ghost use Rattle.machine.specs.Service.{enteredMachine, entry, entryAtBoundary, entryBySmint, taken, passed, boundaryStep, resume};
 ghost use Rattle.machine.specs.Widths.{MachineFits};
-ghost use Rattle.machine.specs.Steps.{window, resetStep, registersStep, readStep, writeStep, portStep, portReadStep, portWriteStep, haltStep, wakeStep, permitted, valid, advanced, saved, restored, operated, opcodeStep, performed, stepped};
+ghost use Rattle.machine.specs.Steps.{window, resetStep, registersStep, readStep, writeStep, portStep, portReadStep, portWriteStep, haltStep, wakeStep, permitted, valid, advanced, saved, restored, opcodeStep, performed, stepped};
 use config::Accessed;
 use config::Config;
 use config::Settings;
@@ -48,16 +50,6 @@ pub struct Machine {
 pub struct Stepped {
     pub machine: Machine,
     pub answer: Answer,
-}
-
-// The same segment, put together anew.
-fn fresh(s: Segment) -> Segment
-    ensures { λ r. ⌜ r ≡ s ⌝ }
-{
-    Segment {
-        selector: s.selector,
-        descriptor: s.descriptor,
-    }
 }
 
 fn segment_of(selector: u16, descriptor: u64) -> Segment
@@ -125,23 +117,63 @@ impl Machine {
         let s = self.segments;
         let level = r.level;
         let config = self.config;
+        let cs = r.cs;
+        let ds = s.ds;
+        let es = s.es;
+        let fs = s.fs;
+        let gs = s.gs;
+        let ss = s.ss;
+        let ldtr = s.ldtr;
+        let tr = s.tr;
+        let cs = Segment {
+            selector: cs.selector,
+            descriptor: cs.descriptor,
+        };
+        let ds = Segment {
+            selector: ds.selector,
+            descriptor: ds.descriptor,
+        };
+        let es = Segment {
+            selector: es.selector,
+            descriptor: es.descriptor,
+        };
+        let fs = Segment {
+            selector: fs.selector,
+            descriptor: fs.descriptor,
+        };
+        let gs = Segment {
+            selector: gs.selector,
+            descriptor: gs.descriptor,
+        };
+        let ss = Segment {
+            selector: ss.selector,
+            descriptor: ss.descriptor,
+        };
+        let ldtr = Segment {
+            selector: ldtr.selector,
+            descriptor: ldtr.descriptor,
+        };
+        let tr = Segment {
+            selector: tr.selector,
+            descriptor: tr.descriptor,
+        };
         let registers = Registers {
             eip: r.eip,
             eflags: r.eflags,
             cr0: r.cr0,
             dr7: r.dr7,
-            cs: fresh(r.cs),
+            cs: cs,
             level: level,
             writable: r.writable,
         };
         let segments = Segments {
-            ds: fresh(s.ds),
-            es: fresh(s.es),
-            fs: fresh(s.fs),
-            gs: fresh(s.gs),
-            ss: fresh(s.ss),
-            ldtr: fresh(s.ldtr),
-            tr: fresh(s.tr),
+            ds: ds,
+            es: es,
+            fs: fs,
+            gs: gs,
+            ss: ss,
+            ldtr: ldtr,
+            tr: tr,
         };
         Machine {
             registers: registers,
@@ -402,6 +434,17 @@ impl Machine {
         }
     }
 
+    // What an opcode asks for, undefined where that is not valid.
+    fn operation(self, opcode: u8, modrm: u8) -> Operation
+        ensures { λ r. ⌜ r ≡ cond (valid self (operationOf opcode modrm)) (operationOf opcode modrm) Undefined ⌝ }
+    {
+        let o = opcodes::decode(opcode, modrm);
+        if self.is_valid(o) {
+            return o;
+        }
+        Operation::Undefined
+    }
+
     // The region whose bytes management memory answers.
     fn window(self) -> Region
         ensures { λ r. ⌜ r ≡ window self ⌝ }
@@ -451,27 +494,6 @@ impl Machine {
                 .answers(Answer::Done);
         }
         self.answers(Answer::Absent)
-    }
-
-    // A valid operation.
-    fn operate(
-        self,
-        main: &mut [u8],
-        management: &mut [u8],
-        o: Operation,
-        address: u32,
-        next: u32,
-    ) -> Stepped
-        ensures { λ r. ⌜ ends r (memories (now (main .exit)) (now (management .exit)))
-            ≡ operated self (memories (now (main .entry)) (now (management .entry))) o address next ⌝ }
-    {
-        match o {
-            Operation::Save(name) => self.save(main, management, name, address, next),
-            Operation::Restore(name) => self.restore(main, management, name, address, next),
-            Operation::Smint => self.enter_by_smint(management, next),
-            Operation::Rsm => self.resume(management),
-            Operation::Undefined => self.answers(Answer::Invalid),
-        }
     }
 
     // The machine after a port access, and the answer.
@@ -569,11 +591,13 @@ impl Machine {
         ensures { λ r. ⌜ ends r (memories (now (main .exit)) (now (management .exit)))
             ≡ opcodeStep self (memories (now (main .entry)) (now (management .entry))) opcode modrm address next ⌝ }
     {
-        let o = opcodes::decode(opcode, modrm);
-        if self.is_valid(o) {
-            return self.operate(main, management, o, address, next);
+        match self.operation(opcode, modrm) {
+            Operation::Save(name) => self.save(main, management, name, address, next),
+            Operation::Restore(name) => self.restore(main, management, name, address, next),
+            Operation::Smint => self.enter_by_smint(management, next),
+            Operation::Rsm => self.resume(management),
+            Operation::Undefined => self.answers(Answer::Invalid),
         }
-        self.answers(Answer::Invalid)
     }
 
     fn boundary(
