@@ -1,7 +1,7 @@
 -- The header in a memory, and the steps that enter. Assumes nothing.
 use mathlib.Core.Path.{_≡_, refl}
 use mathlib.Core.List.{List, map}
-use Prim.Native.Nat.{ℕ, _+_, _≤_, _<_}
+use Prim.Native.Nat.{ℕ, _+_, _≤_}
 use native.Mathlib.Omega.{arith}
 use lib.ListN.{length}
 use lib.Seq.{length-sets}
@@ -9,7 +9,7 @@ use borrow.Author.Tests.{eqb-false}
 use Rattle.fields.proofs.Storing.{stored-below, stored-byte, stored-above}
 use Rattle.memory.specs.Memory.{Memories}
 use Rattle.steps.specs.declared.Step.{Step}
-use Rattle.steps.specs.Answers.{numberOf, refusal}
+use Rattle.steps.specs.Answers.{numberOf}
 use Rattle.refusals.proofs.Laws.{sizes}
 use Rattle.config.specs.Settings.{headerPlace}
 use Rattle.config.proofs.Lock.{place-fits}

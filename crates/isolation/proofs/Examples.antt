@@ -8,19 +8,17 @@ use lib.ListN.{length, replicate, length-replicate}
 use Rattle.region.specs.Region.{regionOf, sizeOf, usable, within}
 use Rattle.fields.specs.Fields.{numberBy}
 use Rattle.memory.specs.Memory.{Memories, memories, absent, allThere}
-use Rattle.steps.specs.declared.Answer.{Answer}
 use Rattle.steps.specs.declared.Answer.the-variants.{Done}
 use Rattle.steps.specs.declared.Interruption.the-variants.{None}
 use Rattle.steps.specs.declared.Step.{Step}
-use Rattle.steps.specs.declared.Step.the-variants.{Reset, Read, PortRead, Opcode, Boundary, UnnamedBoundary, Halt}
+use Rattle.steps.specs.declared.Step.the-variants.{Read, PortRead, Opcode, Boundary, UnnamedBoundary, Halt}
 use Rattle.steps.specs.Steps.{isWidth, kindOf}
 use Rattle.refusals.specs.declared.Verdict.the-variants.{Allowed}
 use Rattle.refusals.specs.Refusals.{wrongSizes, malformedOn, programWhileHalted, firstRefusal}
 use Rattle.refusals.proofs.Laws.{taken-allowed}
 use Rattle.config.specs.Settings.{windowOf, enabled}
 use Rattle.opcodes.specs.Decode.{operationOf}
-use Rattle.machine.specs.declared.Machine.{Machine}
-use Rattle.machine.specs.Machines.{machine, withHalted, resetRegisters, resetSegments}
+use Rattle.machine.specs.Machines.{withHalted, resetSegments}
 use Rattle.machine.specs.Outcomes.{ends}
 use Rattle.machine.specs.Steps.{permitted, valid, haltStep, performed, stepped}
 use Rattle.machine.specs.Widths.{SegmentFits, MachineFits}
@@ -32,7 +30,7 @@ use Rattle.isolation.specs.Examples.{sample, locked, underSmac, stepsToE
 use Rattle.isolation.proofs.Service.{performs, smi-enters, smint-enters}
 use Rattle.isolation.proofs.Tightness.{no-reset-asked, up-to-entry-asked}
 
--- the boundary that enters, and its answer on the machine as it is left by a halt
+-- the boundary that enters
 abbrev entering : Step
 entering = Boundary 1 0x1000 None
 

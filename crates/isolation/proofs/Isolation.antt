@@ -19,7 +19,6 @@ use Rattle.steps.specs.declared.Step.{Step}
 use Rattle.steps.specs.declared.Step.the-variants.{Reset, Registers, Read, Write, PortRead, PortWrite, Opcode, Boundary, UnnamedBoundary, Halt, Wake}
 use Rattle.steps.specs.Answers.{numberOf}
 use Rattle.events.specs.Events.{Event, event}
-use Rattle.refusals.specs.declared.Verdict.{Verdict}
 use Rattle.refusals.specs.Refusals.{wrongSizes, firstRefusal}
 use Rattle.refusals.proofs.Laws.{by-verdict, sizes}
 use Rattle.config.specs.declared.Accessed.{Accessed}

@@ -1,10 +1,9 @@
 -- Demand 2. Assumes nothing.
-use mathlib.Core.Path.{_≡_, refl, sym, ap, subst, _∙_}
-use mathlib.Core.Bool.{Bool, true, false}
-use Prim.Native.Nat.{ℕ, _+_, _*_, _^_, _≤_, _<_}
+use mathlib.Core.Path.{_≡_, refl, ap, _∙_}
+use mathlib.Core.Bool.{true, false}
+use Prim.Native.Nat.{ℕ, _+_, _*_, _^_, _<_}
 use native.Mathlib.Omega.{arith}
 use lib.Dec.{eqb}
-use lib.ListN.{length}
 use lib.Seq.{length-sets}
 use Rattle.memory.specs.Memory.{Memories}
 use Rattle.steps.specs.declared.Transfer.{Transfer}
@@ -13,12 +12,11 @@ use Rattle.steps.specs.declared.Interruption.the-variants.{None, Input, Output,
 use Rattle.steps.specs.declared.Step.{Step}
 use Rattle.steps.specs.declared.Step.the-variants.{Opcode, Boundary}
 use Rattle.steps.specs.Widths.{TransferFits, InterruptionFits, StepFits}
-use Rattle.refusals.specs.declared.Verdict.{Verdict}
 use Rattle.refusals.specs.declared.Verdict.the-variants.{Allowed}
 use Rattle.refusals.specs.Refusals.{wrongSizes, malformedOn, programWhileHalted, firstRefusal}
 use Rattle.refusals.proofs.Laws.{taken-allowed}
 use Rattle.config.specs.Settings.{headerPlace}
-use Rattle.header.specs.Header.{sizeBits, portSize, cut, trapOf, headerBytes, headed, withEip}
+use Rattle.header.specs.Header.{sizeBits, portSize, cut, trapOf, headerBytes, headed}
 use Rattle.header.specs.Entry.{entryRegisters}
 use Rattle.header.specs.ReadBack.{SavedFits}
 use Rattle.header.proofs.ReadBack.{registers-back}
@@ -28,11 +26,11 @@ use Rattle.machine.specs.Outcomes.{Outcome, ends}
 use Rattle.machine.specs.Service.{settingsOf, enteredMachine, entry, taken, boundaryStep, resume}
 use Rattle.machine.specs.Steps.{permitted, valid, operated, opcodeStep, performed, decided, stepped}
 use Rattle.machine.specs.Widths.{MachineFits}
-use Rattle.isolation.specs.Service.{Entering, recorded, latchAfter, SmiEnters, SmintEnters, Entry, EntersAsStated, Resume, ResumesAsEntered}
+use Rattle.isolation.specs.Service.{Entering, recorded, latchAfter, SmiEnters, SmintEnters, EntersAsStated, Resume, ResumesAsEntered}
 use Rattle.isolation.specs.Service.Entering.{at-boundary, by-smint}
 use Rattle.isolation.proofs.Cases.{either}
 use Rattle.isolation.proofs.Doing.{Able}
-use Rattle.isolation.proofs.Entering.{only-header, room, Enters, enters}
+use Rattle.isolation.proofs.Entering.{only-header, room, enters}
 
 -- a step that is allowed is performed
 pub performs : (m : Machine) (x : Memories) (s : Step) → firstRefusal (m .halted) x s ≡ Allowed → stepped m x s ≡ performed m x s

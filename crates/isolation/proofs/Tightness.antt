@@ -9,7 +9,7 @@ use lib.ListN.{length, getD, length-append}
 use lib.Seq.{sets, length-sets, ext-getD, take-length, getD-append-seam}
 use borrow.Author.Tests.{ltb-true, ltb-false, eq-eqb, ne-eqb}
 use Rattle.fields.proofs.Storing.{stored-below, stored-byte, stored-above}
-use Rattle.memory.specs.Memory.{Memories, memories}
+use Rattle.memory.specs.Memory.{memories}
 use Rattle.steps.specs.declared.Answer.{Answer}
 use Rattle.steps.specs.declared.Answer.the-variants.{Done, WrongSize, Malformed, WhileHalted, Invalid, Absent, Value, External, Nothing, Ignored, Latched, Entered, Resumed}
 use Rattle.steps.specs.declared.Step.{Step}
@@ -21,10 +21,9 @@ use Rattle.header.specs.Header.{headed, headerBytes}
 use Rattle.header.specs.Entry.{entryRegisters}
 use Rattle.machine.specs.declared.Machine.{Machine}
 use Rattle.machine.specs.Machines.{machine}
-use Rattle.machine.specs.Outcomes.{Outcome, gives, ends}
+use Rattle.machine.specs.Outcomes.{gives, ends}
 use Rattle.machine.specs.Service.{settingsOf, enteredMachine, entry}
 use Rattle.runs.specs.Runs.{Run, run, answersOf}
-use Rattle.isolation.specs.Service.{OnlyHeader}
 use Rattle.isolation.specs.Isolation.{NoReset, UpToEntry, Agree}
 use Rattle.isolation.specs.Tightness.{StartAsked, NoResetAsked, UpToEntryAsked, LastIsLast, WholeList, HeaderDetermines, EntryDetermines, ResumeDetermines, second, AgreementDetermines}
 use Rattle.isolation.proofs.Isolation.{isolated}

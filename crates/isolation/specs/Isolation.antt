@@ -22,11 +22,12 @@ use Rattle.machine.specs.Service.{settingsOf}
 use Rattle.runs.specs.Runs.{Run, run, answersOf}
 use Rattle.isolation.specs.Service.{OnlyHeader}
 
--- what is asked of the machine at the start; it may be halted, and have an SMI latched
+-- what is asked of the machine at the start
 pub record Start (m : Machine) : Type 0 where
   pub outside : m .inside ≡ false
   pub locked : smiLock (settingsOf m) ≡ true
   pub closed : smac (settingsOf m) ≡ false
+  -- it may be halted, and have an SMI latched
 
 -- and of the steps
 abbrev pub NoReset : List Step → Type 0

@@ -13,15 +13,6 @@ use Rattle.machine.specs.Outcomes.{ends}
 use Rattle.machine.specs.Steps.{stepped}
 use Rattle.runs.specs.Runs.{Run, run, InTurn, StepsInTurn}
 
--- a run of one step more
-abbrev pub preceded : Event → Run → Run
-preceded e r = record { machine = r .machine; memory = r .memory; events = e ∷ r .events }
-
-pub run-step : (m : Machine) (x x′ : Memories) (s : Step) (ss : List Step) (d : Stepped) → ends d x′ ≡ stepped m x s
-    → run m x (s ∷ ss) ≡ preceded (event s (m .inside) (d .answer)) (run (d .machine) x′ ss)
-unfolding run
-run-step m x x′ s ss d e = rw (← e)
-
 pub one-event-each : (m : Machine) (x : Memories) (ss : List Step) → length (run m x ss .events) ≡ length ss
 unfolding run
 one-event-each m x [] = refl
@@ -39,3 +30,12 @@ in-turn m x (s ∷ ss) (suc k) h =
 
 pub steps-in-turn : StepsInTurn
 steps-in-turn m x ss = (one-event-each m x ss, in-turn m x ss)
+
+-- a run of one step more
+abbrev pub preceded : Event → Run → Run
+preceded e r = record { machine = r .machine; memory = r .memory; events = e ∷ r .events }
+
+pub run-step : (m : Machine) (x x′ : Memories) (s : Step) (ss : List Step) (d : Stepped) → ends d x′ ≡ stepped m x s
+    → run m x (s ∷ ss) ≡ preceded (event s (m .inside) (d .answer)) (run (d .machine) x′ ss)
+unfolding run
+run-step m x x′ s ss d e = rw (← e)
