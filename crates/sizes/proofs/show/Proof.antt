@@ -7,6 +7,7 @@ use Rattle.lines.proofs.Storing.{printed-within, printed-size}
 use Rattle.sizes.proofs.show.Statement.{statement}
 use Rattle.sizes.proofs.show.Tie as tie
 
+-- by a law of any length: the search would count out the million bytes
 within : (n k size : ℕ) → k ≡ min size n → k ≤ length (replicate {A = ℕ} n 0)
 within n k size e = let l : length (replicate {A = ℕ} n 0) ≡ n = length-replicate n 0 in omega arith
 
