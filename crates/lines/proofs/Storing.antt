@@ -104,6 +104,13 @@ no-line a = record { ends = refl; fits = omega arith; stands = refl }
 pub printed-first : {text a b : List ℕ} {size : ℕ} → Printed text size a b → take size b ≡ text
 printed-first {text} {a} {b} {size} s = ap (take size) (s .stands) ∙ stored-front a text size (omega (arith, s .ends)) (s .fits)
 
+-- its size is within the buffer, and that of the bytes themselves
+pub printed-within : {text a b : List ℕ} {size : ℕ} → Printed text size a b → size ≤ length b
+printed-within {text} {a} s = omega (arith, s .fits, ap length (s .stands), length-sets a 0 text)
+
+pub printed-size : {text a b : List ℕ} {size : ℕ} → Printed text size a b → size ≡ length (take size b)
+printed-size s = omega (arith, s .ends, ap length (printed-first s))
+
 -- the lines of a log are those of the answers that it noted
 pub lines-noted : (es : List Event) → linesFor (map noted es) ≡ linesOf (map (λ (e : Event). e .answer) es)
 unfolding linesFor linesOf

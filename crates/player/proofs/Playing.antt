@@ -85,29 +85,29 @@ module _ {t : Script} {r : Run} {events₀ : List ℕ} where
       }
 
   -- the ways through the loop's body
-  module _ (l : List ℕ) (at : ℕ) (m : Machine) (x : Memories) (count : ℕ) (events : List ℕ) (left : Left t r l at m x count events₀ events)
-    where
-      pub left-end : length l ≤ at → Plays t r (record { machine = m; count = count; reason = why.End }) x events₀ events
-      left-end h = rest-none (script-end l at (recordLimit - count) h) left
+  module _ (l : List ℕ) (at : ℕ) (m : Machine) (x : Memories) (count : ℕ) (events : List ℕ)
+      (left : Left t r l at m x count events₀ events) where
+    pub left-end : length l ≤ at → Plays t r (record { machine = m; count = count; reason = why.End }) x events₀ events
+    left-end h = rest-none (script-end l at (recordLimit - count) h) left
 
-      pub left-limit : at < length l → recordLimit ≤ count
-          → Plays t r (record { machine = m; count = count; reason = why.Limit }) x events₀ events
-      left-limit h k = rest-none (script-limit l at (recordLimit - count) (omega arith) h) left
+    pub left-limit : at < length l → recordLimit ≤ count
+        → Plays t r (record { machine = m; count = count; reason = why.Limit }) x events₀ events
+    left-limit h k = rest-none (script-limit l at (recordLimit - count) (omega arith) h) left
 
-      module _ (more : count < recordLimit) (f : Found) (found : f ≡ foundAt l at) where
-        -- no record at the place
-        pub left-stop : (why : Reason) → scriptBy f (scriptFrom (recordLimit - count - 1) l) ≡ stops why
-            → Plays t r (record { machine = m; count = count; reason = why }) x events₀ events
-        left-stop why e = rest-none (script-found l at (recordLimit - count) (omega arith) f (sym found) ∙ e) left
+    module _ (more : count < recordLimit) (f : Found) (found : f ≡ foundAt l at) where
+      -- no record at the place
+      pub left-stop : (why : Reason) → scriptBy f (scriptFrom (recordLimit - count - 1) l) ≡ stops why
+          → Plays t r (record { machine = m; count = count; reason = why }) x events₀ events
+      left-stop why e = rest-none (script-found l at (recordLimit - count) (omega arith) f (sym found) ∙ e) left
 
-        -- a record: its step is taken, and noted
-        pub left-turn : (s : Step) (next : ℕ) → f ≡ Record s next → (d : Stepped) (x′ : Memories) → ends d x′ ≡ stepped m x s
-            → (n : ℕ) → n ≡ noted (event s (m .inside) (d .answer))
-            → Left t r l next (d .machine) x′ (count + 1) events₀ (set events count n)
-        left-turn s next g d x′ h n k =
-            let u = scriptFrom (recordLimit - (count + 1)) l next in
-            let j : recordLimit - count - 1 ≡ recordLimit - (count + 1) = omega arith in
-            let i : scriptFrom (recordLimit - count) l at ≡ follows s u =
-            script-found l at (recordLimit - count) (omega arith) (Record s next) (sym found ∙ g)
-            ∙ ap (λ (n : ℕ). follows s (scriptFrom n l next)) j in
-            rw k (rest-more (rw (i, run-step m x x′ s (u .steps) d h) at left))
+      -- a record: its step is taken, and noted
+      pub left-turn : (s : Step) (next : ℕ) → f ≡ Record s next → (d : Stepped) (x′ : Memories) → ends d x′ ≡ stepped m x s
+          → (n : ℕ) → n ≡ noted (event s (m .inside) (d .answer))
+          → Left t r l next (d .machine) x′ (count + 1) events₀ (set events count n)
+      left-turn s next g d x′ h n k =
+          let u = scriptFrom (recordLimit - (count + 1)) l next in
+          let j : recordLimit - count - 1 ≡ recordLimit - (count + 1) = omega arith in
+          let i : scriptFrom (recordLimit - count) l at ≡ follows s u =
+          script-found l at (recordLimit - count) (omega arith) (Record s next) (sym found ∙ g)
+          ∙ ap (λ (n : ℕ). follows s (scriptFrom n l next)) j in
+          rw k (rest-more (rw (i, run-step m x x′ s (u .steps) d h) at left))

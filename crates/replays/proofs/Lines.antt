@@ -8,32 +8,33 @@ use lib.Seq.{take-append-seam}
 use Rattle.steps.specs.declared.Answer.{Answer}
 use Rattle.steps.specs.Answers.{numberOf, valueOf}
 use Rattle.lines.specs.declared.Reason.{Reason}
-use Rattle.lines.specs.Lines.{lineOf, linesFor, linesOf, wordOf, textOf}
+use Rattle.lines.specs.Lines.{lineOf, linesOf, wordOf, textOf}
 use Rattle.isolation.specs.Isolation.{throughEntry}
 use Rattle.isolation.proofs.Isolation.{same-answers}
-use Rattle.player.specs.Player.{held}
-use Rattle.replays.specs.Replays.{linesThroughEntry, Begins, SameLines}
+use Rattle.player.specs.Player.{scriptOf}
+use Rattle.replays.specs.Replays.{Begins, SameLines}
 
 -- what is printed after the first entry
 after : List Answer → List ℕ
 after [] = []
 after (a ∷ rest) = cond (eqb (numberOf a) 11) (linesOf rest) (after rest)
 
-split-at : (a : Answer) (rest : List Answer) (b : Bool) → linesOf rest ≡ linesThroughEntry rest ++ after rest
+split-at : (a : Answer) (rest : List Answer) (b : Bool) → linesOf rest ≡ linesOf (throughEntry rest) ++ after rest
     → linesOf (a ∷ rest) ≡ linesOf (a ∷ cond b [] (throughEntry rest)) ++ cond b (linesOf rest) (after rest)
-unfolding linesFor
+unfolding linesOf
 split-at a rest true e = sym (append-assoc (lineOf (numberOf a) (valueOf a)) [] (linesOf rest))
 split-at a rest false e = rw (e, append-assoc)
 
-split : (answers : List Answer) → linesOf answers ≡ linesThroughEntry answers ++ after answers
-unfolding linesFor throughEntry after
+split : (answers : List Answer) → linesOf answers ≡ linesOf (throughEntry answers) ++ after answers
+unfolding linesOf throughEntry after
 split [] = refl
 split (a ∷ rest) = split-at a rest (eqb (numberOf a) 11) (split rest)
 
-begins : (answers : List Answer) (reason : Reason) → Begins (textOf answers reason) (linesThroughEntry answers)
+begins : (answers : List Answer) (reason : Reason) → Begins (textOf answers reason) (linesOf (throughEntry answers))
 begins answers reason =
-    rw (split answers, append-assoc) (take-append-seam (linesThroughEntry answers) (after answers ++ wordOf reason))
+    rw (split answers, append-assoc) (take-append-seam (linesOf (throughEntry answers)) (after answers ++ wordOf reason))
 
 pub same-lines : SameLines
 same-lines m main g h trace from equal none =
-    (ap linesOf (same-answers m main g h (held trace .steps) from equal none), begins _ (held trace .reason), begins _ (held trace .reason))
+    let t = scriptOf trace in
+    (ap linesOf (same-answers m main g h (t .steps) from equal none), begins _ (t .reason), begins _ (t .reason))

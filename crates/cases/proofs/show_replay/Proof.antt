@@ -1,6 +1,5 @@
-use lib.ListN.{length}
-use mathlib.Core.Path.{sym, ap, _∙_}
 use borrow.Author.Needs.{needs}
+use Rattle.lines.proofs.Storing.{printed-within, printed-size}
 use Rattle.cases.proofs.show_replay.Statement.{statement}
 use Rattle.cases.proofs.show_replay.Tie as tie
 
@@ -20,10 +19,10 @@ output-requires : tie.Need-output-requires
 output-requires c κs = search needs
 
 array-share-prefix-out : tie.Need-array-share-prefix-out
-array-share-prefix-out c = search needs
+array-share-prefix-out c = printed-within (c .output .ensures)
 
 slice-aggregate-write-all : tie.Need-slice-aggregate-write-all
-slice-aggregate-write-all c = let w = (c .before .output .ensures) in w .sized ∙ sym (ap length (w .first))
+slice-aggregate-write-all c = printed-size (c .before .output .ensures)
 
 write-all-requires : tie.Need-write-all-requires
 write-all-requires c κs = search needs
