@@ -7,7 +7,7 @@ ghost use Rattle.memory.specs.Memory.{memories};
 ghost use Rattle.steps.specs.Steps.{isWidth, malformed};
 ghost use Rattle.opcodes.specs.Decode.{operationOf};
 ghost use Rattle.opcodes.specs.declared.Operation.the-variants.{Undefined};
-ghost use Rattle.machine.specs.Machines.{withRegisters, withHalted, withLatched, withSegments, segmentIn, withSegment, segment, resetMachine};
+ghost use Rattle.machine.specs.Machines.{withRegisters, withSegments, segmentIn, withSegment, segment, resetMachine};
 ghost use Rattle.machine.specs.Outcomes.{gives, ends};
 ghost use Rattle.machine.specs.Service.{enteredMachine, entry, entryAtBoundary, entryBySmint, taken, passed, boundaryStep, resume};
 ghost use Rattle.machine.specs.Widths.{MachineFits};
@@ -194,22 +194,6 @@ impl Machine {
         }
     }
 
-    fn with_halted(self, halted: bool) -> Machine
-        ensures { λ r. ⌜ r ≡ withHalted self halted ⌝ }
-    {
-        let mut next = self;
-        next.halted = halted;
-        next
-    }
-
-    fn with_latched(self, latched: bool) -> Machine
-        ensures { λ r. ⌜ r ≡ withLatched self latched ⌝ }
-    {
-        let mut next = self;
-        next.latched = latched;
-        next
-    }
-
     fn with_registers(self, registers: Registers) -> Machine
         ensures { λ r. ⌜ r ≡ withRegisters self registers ⌝ }
     {
@@ -362,7 +346,9 @@ impl Machine {
     {
         if asserted {
             if self.inside {
-                return self.with_latched(true).answers(Answer::Latched);
+                let mut next = self;
+                next.latched = true;
+                return next.answers(Answer::Latched);
             }
             return self.answers(Answer::Ignored);
         }
@@ -424,23 +410,15 @@ impl Machine {
         false
     }
 
-    fn is_valid(self, o: Operation) -> bool
-        ensures { λ r. ⌜ r ≡ valid self o ⌝ }
-    {
-        if self.permits() {
-            o.is_allowed(self.inside)
-        } else {
-            false
-        }
-    }
-
     // What an opcode asks for, undefined where that is not valid.
     fn operation(self, opcode: u8, modrm: u8) -> Operation
         ensures { λ r. ⌜ r ≡ cond (valid self (operationOf opcode modrm)) (operationOf opcode modrm) Undefined ⌝ }
     {
         let o = opcodes::decode(opcode, modrm);
-        if self.is_valid(o) {
-            return o;
+        if self.permits() {
+            if o.is_allowed(self.inside) {
+                return o;
+            }
         }
         Operation::Undefined
     }
@@ -620,13 +598,17 @@ impl Machine {
     fn halt(self) -> Stepped
         ensures { λ r. ⌜ r ≡ haltStep self ⌝ }
     {
-        self.with_halted(true).answers(Answer::Done)
+        let mut next = self;
+        next.halted = true;
+        next.answers(Answer::Done)
     }
 
     fn wake(self) -> Stepped
         ensures { λ r. ⌜ r ≡ wakeStep self ⌝ }
     {
-        self.with_halted(false).answers(Answer::Done)
+        let mut next = self;
+        next.halted = false;
+        next.answers(Answer::Done)
     }
 
     // A step that no refusal of 1 to 3 stops. But for the data accesses each result has a local of its own: so the compiler does without

@@ -5,35 +5,30 @@ use Rattle.machine.proofs.Machine.pass.Tie as tie
 use Rattle.machine.proofs.Machine.pass.Reads as reads
 use Rattle.machine.proofs.Machine.pass.Lts as lts
 use Rattle.machine.proofs.Machine.answers.Reads as answers-reads
-use Rattle.machine.proofs.Machine.with_latched.Reads as with-latched-reads
 
--- src/lib.rt:333:24
-with-latched-requires : tie.Need-with-latched-requires
-with-latched-requires c κs = search needs
-
--- src/lib.rt:333:17
+-- src/lib.rt:351:17
 answers-requires : tie.Need-answers-requires
 answers-requires c κs = search needs
 
--- src/lib.rt:333:17
+-- src/lib.rt:351:17
 returns : tie.Need-returns
 unfolding passed
-returns c = simp ((c .before .before .before .if1 .taken), (c .before .before .if2 .taken), (c .answers .ensures), (c .before .with-latched .ensures))
+returns c = simp ((c .before .before .if1 .taken), (c .before .if2 .taken), (c .answers .ensures))
 
--- src/lib.rt:335:13
+-- src/lib.rt:353:13
 answers-requires-2 : tie.Need-answers-requires-2
 answers-requires-2 c κs = search needs
 
--- src/lib.rt:335:13
+-- src/lib.rt:353:13
 returns-2 : tie.Need-returns-2
 unfolding passed
 returns-2 c = simp ((c .before .before .if1 .taken), (c .before .if2 .left), (c .answers2 .ensures))
 
--- src/lib.rt:337:9
+-- src/lib.rt:355:9
 answers-requires-3 : tie.Need-answers-requires-3
 answers-requires-3 c κs = search needs
 
--- src/lib.rt:328:5
+-- src/lib.rt:344:5
 returns-3 : tie.Need-returns-3
 unfolding passed
 returns-3 c = simp ((c .before .if1 .left), (c .answers3 .ensures))
@@ -41,11 +36,4 @@ returns-3 c = simp ((c .before .if1 .left), (c .answers3 .ensures))
 pub pass-spec : {M : Type 1} → statement M
 pass-spec =
     tie.close
-    (tie.spec
-    with-latched-requires
-    answers-requires
-    returns
-    answers-requires-2
-    returns-2
-    answers-requires-3
-    returns-3)
+    (tie.spec answers-requires returns answers-requires-2 returns-2 answers-requires-3 returns-3)
