@@ -611,18 +611,15 @@ impl Machine {
         next.answers(Answer::Done)
     }
 
-    // A step that no refusal of 1 to 3 stops. But for the data accesses each result has a local of its own: so the compiler does without
-    // copying the machine at a data access, which most records are.
+    // A step that no refusal of 1 to 3 stops. The results of the two that can enter have a local of their own: the compiler then doesn't copy
+    // the machine at a data access.
     fn perform(self, main: &mut [u8], management: &mut [u8], s: Step) -> Stepped
         requires { ⌜ malformed s ≡ false ⌝ }
         ensures { λ r. ⌜ ends r (memories (now (main .exit)) (now (management .exit)))
             ≡ performed self (memories (now (main .entry)) (now (management .entry))) s ⌝ }
     {
         match s {
-            Step::Reset => {
-                let r = self.reset();
-                r
-            }
+            Step::Reset => self.reset(),
             Step::Registers {
                 eip,
                 eflags,
@@ -632,33 +629,15 @@ impl Machine {
                 descriptor,
                 level,
                 writable,
-            } => {
-                let r = self.load_registers(
-                    eip,
-                    eflags,
-                    cr0,
-                    dr7,
-                    selector,
-                    descriptor,
-                    level,
-                    writable,
-                );
-                r
-            }
+            } => self.load_registers(eip, eflags, cr0, dr7, selector, descriptor, level, writable),
             Step::Read { width, address } => self.read(main, management, width, address),
             Step::Write {
                 width,
                 address,
                 value,
             } => self.write(main, management, width, address, value),
-            Step::PortRead { port } => {
-                let r = self.read_port(port);
-                r
-            }
-            Step::PortWrite { port, value } => {
-                let r = self.write_port(port, value);
-                r
-            }
+            Step::PortRead { port } => self.read_port(port),
+            Step::PortWrite { port, value } => self.write_port(port, value),
             Step::Opcode {
                 opcode,
                 modrm,
@@ -677,14 +656,8 @@ impl Machine {
                 r
             }
             Step::UnnamedBoundary => self.answers(Answer::Malformed),
-            Step::Halt => {
-                let r = self.halt();
-                r
-            }
-            Step::Wake => {
-                let r = self.wake();
-                r
-            }
+            Step::Halt => self.halt(),
+            Step::Wake => self.wake(),
         }
     }
 
