@@ -36,6 +36,10 @@ windowOf s inside =
 unfoldable pub enabled : Settings → Bool
 enabled s = useSmi s && not (smac s) && usable (regionIn s)
 
+-- 01, "Opcode": with USE_SMI and a usable region the opcodes work inside the mode, and outside it under SMAC
+unfoldable pub opcodesAllowed : Settings → Bool → Bool
+opcodesAllowed s inside = useSmi s && usable (regionIn s) && (inside || smac s)
+
 -- 01, "Forty-eight bytes below the top": the place in management memory of the header's first byte. A usable region has room for it.
 unfoldable pub headerPlace : Settings → ℕ
 headerPlace s = sizeOf (regionIn s .code) - 48

@@ -1,7 +1,7 @@
 ghost use mathlib.Core.Path.{_≡_};
 ghost use mathlib.Core.Bool.{false, _&&_};
 ghost use lib.Dec.{eqb};
-ghost use Rattle.config.specs.Settings.{useSmi, smac, mmac, smiLock, regionIn, windowOf, enabled, headerPlace, byteOf, withByte, lockedBits, stickyBits, keptBits, merged, written};
+ghost use Rattle.config.specs.Settings.{useSmi, smac, mmac, smiLock, regionIn, windowOf, enabled, opcodesAllowed, headerPlace, byteOf, withByte, lockedBits, stickyBits, keptBits, merged, written};
 ghost use Rattle.config.specs.Locked.{SettingsFit, LockedAsListed};
 ghost use Rattle.config.specs.Ports.{internal, indexed, answering, portRead, portWrite};
 ghost use Rattle.steps.specs.declared.Answer.the-variants.{External};
@@ -72,13 +72,13 @@ fn is_internal(index: u8) -> bool
 }
 
 impl Settings {
-    pub fn use_smi(self) -> bool
+    fn use_smi(self) -> bool
         ensures { λ r. ⌜ r ≡ useSmi self ⌝ }
     {
         self.ccr1 / 2 % 2 == 1
     }
 
-    pub fn smac(self) -> bool
+    fn smac(self) -> bool
         ensures { λ r. ⌜ r ≡ smac self ⌝ }
     {
         self.ccr1 / 4 % 2 == 1
@@ -138,6 +138,22 @@ impl Settings {
             }
             let r = self.region();
             return r.is_usable();
+        }
+        false
+    }
+
+    // Whether the opcodes work inside the mode, or outside it, as far as the settings decide.
+    pub fn allows_opcodes(self, inside: bool) -> bool
+        ensures { λ r. ⌜ r ≡ opcodesAllowed self inside ⌝ }
+    {
+        if self.use_smi() {
+            let r = self.region();
+            if r.is_usable() {
+                if inside {
+                    return true;
+                }
+                return self.smac();
+            }
         }
         false
     }

@@ -1,9 +1,8 @@
 -- 01, "The steps" and "Numbers the bench sees": what each step does, and one step of a machine over its two memories.
 use Prim.Native.Nat.{ℕ}
-use mathlib.Core.Bool.{Bool, true, false, cond, _&&_, _||_}
+use mathlib.Core.Bool.{Bool, true, false, cond, _&&_}
 use lib.Dec.{eqb}
 use Rattle.region.specs.declared.Region.{Region}
-use Rattle.region.specs.Region.{usable}
 use Rattle.memory.specs.Memory.{Memories, there, operandLength, segmentAt, storeSegment, reads, writes}
 use Rattle.refusals.specs.declared.Verdict.{Verdict}
 use Rattle.refusals.specs.declared.Verdict.the-variants.{Refused, Allowed}
@@ -11,7 +10,7 @@ use Rattle.refusals.specs.Refusals.{firstRefusal}
 use Rattle.steps.specs.declared.Answer.the-variants.{Done, Malformed, Invalid, Absent}
 use Rattle.steps.specs.declared.Step.{Step}
 use Rattle.steps.specs.declared.Step.the-variants.{Reset, Registers, Read, Write, PortRead, PortWrite, Opcode, Boundary, UnnamedBoundary, Halt, Wake}
-use Rattle.config.specs.Settings.{useSmi, smac, regionIn, windowOf}
+use Rattle.config.specs.Settings.{windowOf, opcodesAllowed}
 use Rattle.config.specs.Ports.{portRead, portWrite}
 use Rattle.config.specs.declared.Accessed.{Accessed}
 use Rattle.header.specs.Header.{levelNumber, levelOf, withEip}
@@ -69,11 +68,9 @@ portWriteStep m port v = portStep m (portWrite (m .config) port v (m .inside))
 
 -- ---- opcode
 
--- the opcodes work with USE_SMI, a usable region and level 0, inside the mode or under SMAC
+-- the opcodes work at level 0, where the settings allow them
 unfoldable pub permitted : Machine → Bool
-permitted m =
-    useSmi (settingsOf m) && usable (regionIn (settingsOf m)) && eqb (levelNumber (m .registers .level)) 0
-    && (m .inside || smac (settingsOf m))
+permitted m = eqb (levelNumber (m .registers .level)) 0 && opcodesAllowed (settingsOf m) (m .inside)
 
 unfoldable pub valid : Machine → Operation → Bool
 valid m o = permitted m && allowed (m .inside) o
