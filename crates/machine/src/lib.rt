@@ -9,7 +9,7 @@ ghost use Rattle.opcodes.specs.Decode.{operationOf};
 ghost use Rattle.opcodes.specs.declared.Operation.the-variants.{Undefined};
 ghost use Rattle.machine.specs.Machines.{withRegisters, withSegments, segmentIn, withSegment, segment, resetMachine};
 ghost use Rattle.machine.specs.Outcomes.{gives, ends};
-ghost use Rattle.machine.specs.Service.{savedAtBoundary, savedBySmint, enteredMachine, entry, taken, passed, boundaryStep, resume};
+ghost use Rattle.machine.specs.Service.{enteredMachine, entry, entryAtBoundary, entryBySmint, taken, passed, boundaryStep, resume};
 ghost use Rattle.machine.specs.Widths.{MachineFits};
 ghost use Rattle.machine.specs.Steps.{window, resetStep, registersStep, readStep, writeStep, portStep, portReadStep, portWriteStep, haltStep, wakeStep, permitted, valid, advanced, saved, restored, opcodeStep, performed, stepped};
 use config::Accessed;
@@ -303,36 +303,26 @@ impl Machine {
         self.entered(latched).answers(Answer::Entered)
     }
 
-    // What entry at a boundary records.
-    fn saved_at_boundary(self, current: u32, interruption: Interruption) -> Saved
-        ensures { λ r. ⌜ r ≡ savedAtBoundary self current interruption ⌝ }
+    fn enter_at_boundary(
+        self,
+        management: &mut [u8],
+        current: u32,
+        interruption: Interruption,
+    ) -> Stepped
+        ensures { λ r. ⌜ ((main : List ℕ) → ends r (memories main (now (management .exit)))
+            ≡ entryAtBoundary self (memories main (now (management .entry))) current interruption) ⌝ }
     {
         let registers = self.registers;
         let trap = header::trap_of(interruption);
-        Saved {
+        let saved = Saved {
             registers: registers,
             current: either(self.halted, registers.eip, current),
             next: registers.eip,
             trap: trap,
             smint: false,
             halted: self.halted,
-        }
-    }
-
-    // What entry by SMINT records.
-    fn saved_by_smint(self, next: u32) -> Saved
-        ensures { λ r. ⌜ r ≡ savedBySmint self next ⌝ }
-    {
-        let registers = self.registers;
-        let trap = header::trap_of(Interruption::None);
-        Saved {
-            registers: registers,
-            current: registers.eip,
-            next: next,
-            trap: trap,
-            smint: true,
-            halted: self.halted,
-        }
+        };
+        self.enter(management, saved, false)
     }
 
     // Whether a boundary takes an SMI.
@@ -363,6 +353,24 @@ impl Machine {
             return self.answers(Answer::Ignored);
         }
         self.answers(Answer::Nothing)
+    }
+
+    // SMINT, which keeps the latch.
+    fn enter_by_smint(self, management: &mut [u8], next: u32) -> Stepped
+        ensures { λ r. ⌜ ((main : List ℕ) → ends r (memories main (now (management .exit)))
+            ≡ entryBySmint self (memories main (now (management .entry))) next) ⌝ }
+    {
+        let registers = self.registers;
+        let trap = header::trap_of(Interruption::None);
+        let saved = Saved {
+            registers: registers,
+            current: registers.eip,
+            next: next,
+            trap: trap,
+            smint: true,
+            halted: self.halted,
+        };
+        self.enter(management, saved, self.latched)
     }
 
     // RSM.
@@ -554,7 +562,7 @@ impl Machine {
         match self.operation(opcode, modrm) {
             Operation::Save(name) => self.save(main, management, name, address, next),
             Operation::Restore(name) => self.restore(main, management, name, address, next),
-            Operation::Smint => self.enter(management, self.saved_by_smint(next), self.latched),
+            Operation::Smint => self.enter_by_smint(management, next),
             Operation::Rsm => self.resume(management),
             Operation::Undefined => self.answers(Answer::Invalid),
         }
@@ -572,8 +580,7 @@ impl Machine {
     {
         let asserted = smi == 1;
         if self.is_taken(asserted) {
-            let saved = self.saved_at_boundary(current, interruption);
-            return self.enter(management, saved, false);
+            return self.enter_at_boundary(management, current, interruption);
         }
         self.pass(asserted)
     }
