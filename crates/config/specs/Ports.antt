@@ -19,7 +19,8 @@ indexed s i armed = record { settings = s; index = i; armed = armed }
 abbrev pub answering : Config → Answer → Accessed
 answering c a = record { config = c; answer = a }
 
--- A read of port 23h when armed disarms, and reads the byte if the index is internal. Every other read is external and changes nothing.
+-- An armed index is disarmed by a read of port 23h, which gives its byte if it is internal. Every other read is external and changes
+-- nothing.
 unfoldable pub portRead : Config → ℕ → Accessed
 portRead c port =
     cond (eqb port 0x23 && c .armed)
@@ -27,8 +28,8 @@ portRead c port =
     (cond (internal (c .index)) (Value (byteOf (c .settings) (c .index))) External))
     (answering c External)
 
--- A write to port 22h sets the index and arms it. One to port 23h when armed disarms, and writes the byte if the index is internal. Every
--- other write is external and changes nothing.
+-- A write to port 22h gives the index and arms it. An armed index is disarmed by a write to port 23h, which writes its byte if it is
+-- internal. Every other write is external and changes nothing.
 unfoldable pub portWrite : Config → ℕ → ℕ → Bool → Accessed
 portWrite c port v inside =
     cond (eqb port 0x22) (answering (indexed (c .settings) v true) Done)

@@ -8,7 +8,7 @@ use Rattle.region.specs.Region.{regionOf, sizeOf, usable}
 use Rattle.region.specs.declared.Region.{Region}
 use Rattle.config.specs.declared.Settings.{Settings}
 
--- CCR1, at index C1h: bit 1 USE_SMI, bit 2 SMAC, bit 3 MMAC
+-- CCR1 is the byte at C1h: USE_SMI is its bit 1, SMAC its bit 2, MMAC its bit 3
 abbrev pub useSmi : Settings → Bool
 useSmi s = eqb (s .ccr1 / 2 % 2) 1
 
@@ -18,7 +18,7 @@ smac s = eqb (s .ccr1 / 4 % 2) 1
 abbrev pub mmac : Settings → Bool
 mmac s = eqb (s .ccr1 / 8 % 2) 1
 
--- CCR3, at index C3h: bit 0 SMI_LOCK. No rule reads its bit 1, NMI_EN, which the lock covers too.
+-- CCR3 is the byte at C3h: SMI_LOCK is its bit 0. No rule reads its bit 1, NMI_EN, which the lock covers too.
 abbrev pub smiLock : Settings → Bool
 smiLock s = eqb (s .ccr3 % 2) 1
 
@@ -26,8 +26,8 @@ smiLock s = eqb (s .ccr3 % 2) 1
 abbrev pub regionIn : Settings → Region
 regionIn s = regionOf (s .high) (s .middle) (s .low)
 
--- The region whose bytes management memory answers. With USE_SMI it is open outside the mode where SMAC is set, and inside where MMAC is
--- clear; otherwise its code is 0, which names no address. That the region has to be usable is part of being in it.
+-- The region whose bytes management memory answers. With USE_SMI that is SMAR's region, outside the mode where SMAC is set, and inside
+-- where MMAC is clear; otherwise its code is 0, and whatever its base, it has no address. That the region has to be usable is part of being in it.
 unfoldable pub windowOf : Settings → Bool → Region
 windowOf s inside =
     cond (useSmi s && cond inside (not (mmac s)) (smac s)) (regionIn s) (record { base = regionIn s .base; code = 0 })
@@ -67,7 +67,7 @@ withByte s i v = record {
 unfoldable pub lockedBits : ℕ → ℕ
 lockedBits i = cond (eqb i 0xc1) 0x0e (cond (eqb i 0xc3) 0x03 (cond (eqb i 0xcd || eqb i 0xce || eqb i 0xcf) 0xff 0))
 
--- and inside it, where a handler may write all but SMI_LOCK
+-- the bits that it covers inside the mode, where a handler may write all but SMI_LOCK
 unfoldable pub stickyBits : ℕ → ℕ
 stickyBits i = cond (eqb i 0xc3) 0x01 0
 

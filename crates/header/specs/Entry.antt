@@ -12,7 +12,7 @@ use Rattle.header.specs.declared.Registers.{Registers}
 unfoldable pub entryCr0 : ℕ → ℕ
 entryCr0 c = bitAnd c 0x7ffffff2
 
--- CS: bits 19-12 of the base are the selector's high byte, and the base's four bytes stand in the descriptor at their usual places
+-- CS: bits 19-12 of the base are the selector's high byte, and the base's four bytes are bytes 2, 3, 4 and 7 of the descriptor
 unfoldable pub entryCs : ℕ → Segment
 unfolding numberBy
 entryCs base = record {

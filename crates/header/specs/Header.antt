@@ -33,7 +33,7 @@ sizeBits size = cond (eqb size 1) 0x1 (cond (eqb size 2) 0x3 0xf)
 abbrev pub portSize : Transfer → ℕ
 portSize t = t .port + 65536 * sizeBits (t .size)
 
--- an output's data, cut to its size
+-- an output's data, cut to its size, 1, 2 or 4
 unfoldable pub cut : Transfer → ℕ
 cut t = cond (eqb (t .size) 1) (t .value % 256) (cond (eqb (t .size) 2) (t .value % 65536) (t .value))
 
@@ -69,7 +69,8 @@ depth PortSize = 0x28
 depth OutputData = 0x2c
 depth StringIndex = 0x30
 
--- its second column: what each word holds. The flags are C, a writable code segment, I, an output, P, a REP form, S, SMINT, and H, halted.
+-- its second column: what each word holds. The flags word has C (the code segment is writable) in bit 0, then I (output), P
+-- (REP form), S (SMINT) and H (halted).
 abbrev pub contents : Saved → Word → ℕ
 contents s Dr7 = s .registers .dr7
 contents s Eflags = s .registers .eflags

@@ -8,7 +8,7 @@ use Rattle.header.specs.declared.Saved.{Saved}
 use Rattle.header.specs.Header.{Word, depth, contents, upward, headed, wordIn, resumed, withEip}
 use Rattle.header.specs.Header.Word.{Dr7}
 
--- The words fill the 48 bytes below the end: the k-th upward begins 4 k above the first. (An addition: 48 less a depth above 48 would be 0.)
+-- The words fill the 48 bytes below the end: the k-th upward begins 4 k above the first. (Said by an addition, since a subtraction stops at 0.)
 abbrev pub TableFills : Type 0
 TableFills = (length upward ≡ 12) × ((k : ℕ) → k < 12 → depth (getD upward k Dr7) + 4 * k ≡ 48)
 

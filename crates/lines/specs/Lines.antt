@@ -18,7 +18,7 @@ newline = 0x0a
 unfoldable pub digitOf : ℕ → ℕ
 digitOf d = cond (ltb d 10) (0x30 + d) (0x61 + (d - 10))
 
--- a number below 10 to the count in decimal, with no zeros in front
+-- a number of at most count digits in decimal, with no zeros in front
 unfoldable pub decimalOf : ℕ → ℕ → List ℕ
 decimalOf zero n = []
 decimalOf (suc count) n = cond (ltb n 10) (digitOf n ∷ []) (decimalOf count (n / 10) ++ digitOf (n % 10) ∷ [])
@@ -28,7 +28,7 @@ unfoldable pub hexOf : ℕ → ℕ → List ℕ
 hexOf zero v = []
 hexOf (suc count) v = hexOf count (v / 16) ++ digitOf (v % 16) ∷ []
 
--- a record's line: the answer's number, a space, eight hex digits of its value. Three decimal digits hold a byte.
+-- a record's line: the answer's number, which has at most three digits, a space, eight hex digits of its value
 unfoldable pub lineOf : ℕ → ℕ → List ℕ
 lineOf number value = decimalOf 3 number ++ space ∷ hexOf 8 value ++ newline ∷ []
 

@@ -12,7 +12,7 @@ use Rattle.opcodes.specs.declared.SegmentName.the-variants.{Es, Cs, Ss, Ds, Fs,
 use Rattle.machine.specs.declared.Segments.{Segments}
 use Rattle.machine.specs.declared.Machine.{Machine}
 
--- the flags: halted, in management mode, one SMI latched
+-- a machine of its parts; the flags say whether it is halted, inside management mode, and has an SMI latched
 abbrev pub machine : Registers → Segments → Bool → Bool → Bool → Config → Machine
 machine r s halted inside latched c =
     record { registers = r; segments = s; halted = halted; inside = inside; latched = latched; config = c }
@@ -78,8 +78,8 @@ resetRegisters = record {
 -- the other segments: all alike, but LDTR and TR, which are all zero
 abbrev pub resetSegments : Segments
 resetSegments =
-    let flat = segment 0 (number (0xff ∷ 0xff ∷ 0x00 ∷ 0x00 ∷ 0x00 ∷ 0x93 ∷ 0x00 ∷ 0x00 ∷ [])) in
-    segments flat flat flat flat flat (segment 0 0) (segment 0 0)
+    let ordinary = segment 0 (number (0xff ∷ 0xff ∷ 0x00 ∷ 0x00 ∷ 0x00 ∷ 0x93 ∷ 0x00 ∷ 0x00 ∷ [])) in
+    segments ordinary ordinary ordinary ordinary ordinary (segment 0 0) (segment 0 0)
 
 -- the whole machine: configuration, flags and index are zero, and nothing is armed
 unfoldable pub resetMachine : Machine

@@ -19,7 +19,7 @@ use Rattle.machine.specs.Outcomes.{Outcome, gives, ends}
 abbrev pub settingsOf : Machine → Settings
 settingsOf m = m .config .settings
 
--- What entry at a boundary records. Next IP is EIP; current IP is the boundary's current address, but EIP on a halted machine.
+-- What entry at a boundary records. Next IP is EIP. Current IP is the address that the boundary gives, but EIP on a halted machine.
 abbrev pub savedAtBoundary : Machine → ℕ → Interruption → Saved
 savedAtBoundary m current i = record {
   registers = m .registers;

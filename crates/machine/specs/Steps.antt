@@ -93,6 +93,7 @@ restored m x name a next =
     (gives (advanced (withSegment m name (segmentAt (window m) x a)) next) Done)
     (gives m Absent)
 
+-- a valid operation; an undefined one never is
 unfoldable pub operated : Machine → Memories → Operation → ℕ → ℕ → Outcome
 operated m x (Save name) a next = saved m x name a next
 operated m x (Restore name) a next = ends (restored m x name a next) x

@@ -67,7 +67,7 @@ impl Machine {
         ensures { λ r. ⌜ r ≡ resetMachine ⌝ }
     {
         let cs = segment_of(0xF000, 0xFF0093FF0000FFFF);
-        let flat = segment_of(0, 0x000093000000FFFF);
+        let ordinary = segment_of(0, 0x000093000000FFFF);
         let none = segment_of(0, 0);
         let registers = Registers {
             eip: 0xFFF0,
@@ -79,11 +79,11 @@ impl Machine {
             writable: true,
         };
         let segments = Segments {
-            ds: flat,
-            es: flat,
-            fs: flat,
-            gs: flat,
-            ss: flat,
+            ds: ordinary,
+            es: ordinary,
+            fs: ordinary,
+            gs: ordinary,
+            ss: ordinary,
             ldtr: none,
             tr: none,
         };

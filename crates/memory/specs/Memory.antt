@@ -23,7 +23,7 @@ memories a b = record { main = a; management = b }
 pub data Cell : Type 0 where
   InMain InManagement : ℕ → Cell
 
--- The cell that an address names. Management memory's byte k is the region's byte k; main memory answers addresses as they are.
+-- The cell that an address names: in management memory by its distance from the region's base, in main memory by the address itself.
 unfoldable pub cellOf : Region → ℕ → Cell
 cellOf w a = cond (within w a) (Cell.InManagement (a - w .base)) (Cell.InMain a)
 
@@ -42,7 +42,7 @@ byteAt w x a = byteIn x (cellOf w a)
 unfoldable pub storeByte : Region → Memories → ℕ → ℕ → Memories
 storeByte w x a b = storeIn x (cellOf w a) b
 
--- Answer 5, of one byte: it is above FFFFFFFFh, or main memory's and beyond its end, its length.
+-- Answer 5, of one byte: its address is above FFFFFFFFh, or outside the window and not below end, which is main memory's length.
 unfoldable pub absent : Region → ℕ → ℕ → Bool
 absent w end a = ltb 0xffffffff a || (not (within w a) && leb end a)
 

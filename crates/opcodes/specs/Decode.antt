@@ -14,7 +14,7 @@ modField modrm = modrm / 64
 abbrev pub middleField : ℕ → ℕ
 middleField modrm = modrm / 8 % 8
 
--- the data segment that the middle field names to SVDC and RSDC, which take no field of 6 or 7; RSDC takes no CS either
+-- the data segment that a middle field below 6 names to SVDC and RSDC; they take no other field, and RSDC takes no CS either
 unfoldable pub dataSegment : ℕ → SegmentName
 dataSegment field =
     cond (eqb field 0) Es (cond (eqb field 1) Cs (cond (eqb field 2) Ss (cond (eqb field 3) Ds (cond (eqb field 4) Fs Gs))))

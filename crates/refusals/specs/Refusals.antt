@@ -17,7 +17,7 @@ largestMain = 1048576
 abbrev pub managementSize : ℕ
 managementSize = 65536
 
--- 1
+-- 1: a memory has a wrong size
 unfoldable pub wrongSizes : Memories → Bool
 wrongSizes x = not (leb (length (x .main)) largestMain && eqb (length (x .management)) managementSize)
 
@@ -25,7 +25,7 @@ wrongSizes x = not (leb (length (x .main)) largestMain && eqb (length (x .manage
 unfoldable pub malformedOn : Bool → Step → Bool
 malformedOn halted s = malformed s || (halted && interrupts s)
 
--- 3
+-- 3: a program step on a halted machine
 unfoldable pub programWhileHalted : Bool → Step → Bool
 programWhileHalted halted s = halted && program s
 

@@ -106,6 +106,6 @@ short l at = ltb (lengthAt l at) 2
 unfoldable pub foundAt : List ℕ → ℕ → Found
 foundAt l at = cond (ended l at) End (cond (torn l at) Torn (cond (short l at) Bad (recordOf (kindAt l at) (bodyAt l at) (pastAt l at))))
 
--- the kinds are those that the log counts a step under
+-- a record's kind is the one that `kindOf` gives its step
 abbrev pub KindsAgree : Type 0
 KindsAgree = (number next past : ℕ) (b : List ℕ) (s : Step) → recordOf number b next ≡ Record s past → kindOf s ≡ number
