@@ -38,7 +38,7 @@ use Rattle.machine.specs.Steps.{portStep, performed, stepped}
 use Rattle.isolation.specs.Service.{Entering, recorded, Entry}
 use Rattle.isolation.specs.Service.Entering.{at-boundary}
 use Rattle.isolation.specs.Examples.{filled}
-use Rattle.isolation.proofs.Service.{performs, smi-enters, enters-as-stated}
+use Rattle.isolation.proofs.Service.{performs, enters-where-due, enters-as-stated}
 use Rattle.isolation.proofs.Examples.{whole, allowed, full}
 use Rattle.bench.specs.Lines.{Line, Smar, IsUsable, LockedCcr1, HeaderAt, EntryCs, EntryCr0, LevelWord, Header, region, Armed, ArmedExample, Before, regionBefore, outcome, Enters, Stores, fromEnd, Example, states, sheet, rowAt, SheetHolds}
 
@@ -90,7 +90,8 @@ writes-ccr1 b value =
 module _ {current : ℕ} {i : Interruption} (b : Before current i) (u : usable (regionBefore b) ≡ true) where
   enters : Enters b
   unfolding enabled
-  enters = smi-enters (b .machine) (b .memory) 1 current i (b .taken) (b .outside) (rw (b .on, b .closed, u)) refl
+  enters =
+      enters-where-due (b .machine) (b .memory) (Boundary 1 current i) (b .allowed) (at-boundary (b .outside) (rw (b .on, b .closed, u)) refl)
 
   entry-of : Entry (b .machine) (b .memory) (Boundary 1 current i) (outcome b)
   entry-of = enters-as-stated (b .machine) (b .memory) (Boundary 1 current i) enters
@@ -99,9 +100,9 @@ module _ {current : ℕ} {i : Interruption} (b : Before current i) (u : usable (
   unfolding headerPlace
   stores = go (entry-of .by) (entry-of .management)
     where
-      go : (by : Entering (Boundary 1 current i)) → Stores b (fromEnd b 48) (headerBytes (recorded (b .machine) by))
+      go : (by : Entering (b .machine) (Boundary 1 current i)) → Stores b (fromEnd b 48) (headerBytes (recorded (b .machine) by))
           → Stores b (fromEnd b 48) (headerBytes (savedAtBoundary (b .machine) current i))
-      go at-boundary o = o
+      go (at-boundary outside on asked) o = o
 
   -- the header's word of selector and level, at a place that is 24 bytes into it
   level-word : (at : ℕ) → at ≡ fromEnd b 48 + 24 → (level : Level) (selector : ℕ) → b .machine .registers .level ≡ level
@@ -155,7 +156,7 @@ abbrev before : Registers → (base code current : ℕ) (i : Interruption) → m
 before r base code current i formed = record {
   machine = sample r (settings 2 base code);
   memory = filled 0;
-  taken = takes current i formed;
+  allowed = takes current i formed;
   outside = refl;
   on = refl;
   closed = refl;

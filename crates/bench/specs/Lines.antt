@@ -1,4 +1,5 @@
--- 01, "Bench sheet": the P lines as one table, and the fact about the rules that each row states.
+-- 01, "Bench sheet" and "Region": the P lines as one table, with the three rows under "Region" before them, and the fact about the rules that
+-- each row states.
 use Prim.Native.Nat.{ℕ, _+_, _-_, _<_}
 use mathlib.Core.Path.{_≡_}
 use mathlib.Core.Bool.{Bool, true, false}
@@ -27,8 +28,7 @@ use Rattle.isolation.specs.Service.{answerTo, OnlyHeader}
 abbrev pub region : ℕ → ℕ → Region
 region base code = record { base = base; code = code }
 
--- A row: what is given, and then what the sheet says of it. A new kind of row is a constructor more, with a clause of `states` and, in
--- proofs/Sheet.antt, of `test` and `sound`.
+-- a row: what is given, and then what the sheet says of it
 pub data Line : Type 0 where
   -- the bytes CDh, CEh and CFh; the base, the code and the size of the region they name
   Smar : (high middle low base code size : ℕ) → Line
@@ -69,7 +69,7 @@ pub record ArmedExample (ccr1 : ℕ) : Type 0 where
 pub record Before (current : ℕ) (i : Interruption) : Type 0 where
   pub machine : Machine
   pub memory : Memories
-  pub taken : firstRefusal (machine .halted) memory (Boundary 1 current i) ≡ Allowed
+  pub allowed : firstRefusal (machine .halted) memory (Boundary 1 current i) ≡ Allowed
   pub outside : machine .inside ≡ false
   pub on : useSmi (settingsOf machine) ≡ true
   pub closed : smac (settingsOf machine) ≡ false

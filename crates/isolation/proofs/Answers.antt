@@ -15,13 +15,14 @@ use Rattle.machine.specs.declared.Stepped.{Stepped}
 use Rattle.machine.specs.Service.{passed}
 use Rattle.isolation.proofs.Cases.{either, unlike}
 
--- an answer that is neither a refusal nor "entered"
+-- an answer that is neither a refusal nor "entered" nor "resumed"
 pub record Plain (a : Answer) : Type 0 where
   pub taken : refusal a ≡ false
   pub other : eqb (numberOf a) 11 ≡ false
+  pub stays : eqb (numberOf a) 12 ≡ false
 
-pub plain : {a : Answer} → refusal a ≡ false → eqb (numberOf a) 11 ≡ false → Plain a
-plain t o = record { taken = t; other = o }
+pub plain : {a : Answer} → refusal a ≡ false → eqb (numberOf a) 11 ≡ false → eqb (numberOf a) 12 ≡ false → Plain a
+plain t o s = record { taken = t; other = o; stays = s }
 
 module _ (c : Config) where
   -- a port read gives a plain answer and leaves the settings
@@ -31,8 +32,8 @@ module _ (c : Config) where
       let P : Accessed → Type 0 = λ p. Plain (p .answer) × (p .config .settings ≡ c .settings) in
       either P (eqb port 0x23 && c .armed)
       (λ h. either (λ (a : Answer). P (answering (indexed (c .settings) (c .index) false) a)) (internal (c .index))
-      (λ k. (plain refl refl, refl)) (λ k. (plain refl refl, refl)))
-      (λ h. (plain refl refl, refl))
+      (λ k. (plain refl refl refl, refl)) (λ k. (plain refl refl refl, refl)))
+      (λ h. (plain refl refl refl, refl))
 
   -- a port write too, outside the mode with the lock set as far as the lock reaches
   pub write-keeps : (port v : ℕ) (inside : Bool) → let p = portWrite c port v inside in
@@ -41,12 +42,12 @@ module _ (c : Config) where
   write-keeps port v inside =
       let P : Accessed → Type 0
       = λ p. Plain (p .answer) × (inside ≡ false → smiLock (c .settings) ≡ true → SameLocked (p .config .settings) (c .settings)) in
-      either P (eqb port 0x22) (λ h. (plain refl refl, λ o l. locked-refl))
+      either P (eqb port 0x22) (λ h. (plain refl refl refl, λ o l. locked-refl))
       (λ h. either P (eqb port 0x23 && c .armed)
       (λ k. either P (internal (c .index))
-      (λ n. (plain refl refl, λ o l. rw o (written-locked (c .settings) (c .index) v l)))
-      (λ n. (plain refl refl, λ o l. locked-refl)))
-      (λ k. (plain refl refl, λ o l. locked-refl)))
+      (λ n. (plain refl refl refl, λ o l. rw o (written-locked (c .settings) (c .index) v l)))
+      (λ n. (plain refl refl refl, λ o l. locked-refl)))
+      (λ k. (plain refl refl refl, λ o l. locked-refl)))
 
 -- a boundary that takes no SMI gives a plain answer and, outside the mode, leaves the machine
 pub passes : (m : Machine) (asserted : Bool)
@@ -55,5 +56,5 @@ unfolding passed
 passes m asserted =
     let P : Stepped → Type 0 = λ r. Plain (r .answer) × (m .inside ≡ false → r .machine ≡ m) in
     either P asserted
-    (λ h. either P (m .inside) (λ k. (plain refl refl, λ o. unlike k o)) (λ k. (plain refl refl, λ o. refl)))
-    (λ h. (plain refl refl, λ o. refl))
+    (λ h. either P (m .inside) (λ k. (plain refl refl refl, λ o. unlike k o)) (λ k. (plain refl refl refl, λ o. refl)))
+    (λ h. (plain refl refl refl, λ o. refl))

@@ -1,8 +1,9 @@
--- What every step does: it is refused, it enters, or neither. Demands 1 and 2 both read it off. Assumes nothing.
+-- What every step does: it is refused, it enters, it resumes, or none of these. Demands 1 and 2 both read it off. Assumes nothing.
 use mathlib.Core.Path.{_≡_, refl}
 use mathlib.Core.Bool.{Bool, true, false, cond, not, _&&_, _||_, and-false, and-eq-true-iff}
 use Prim.Native.Nat.{ℕ}
 use lib.Dec.{eqb}
+use borrow.Author.Tests.{not-true}
 use Rattle.region.specs.Region.{usable}
 use Rattle.memory.specs.Memory.{Memories, Reached, there, operandLength, reads, writes}
 use Rattle.steps.specs.declared.Answer.{Answer}
@@ -24,8 +25,9 @@ use Rattle.machine.specs.Outcomes.{Outcome, gives, ends, refused}
 use Rattle.machine.specs.Service.{settingsOf, entry, taken, boundaryStep, resume}
 use Rattle.machine.specs.Steps.{window, permitted, valid, saved, restored, operated, opcodeStep, performed, decided, stepped}
 use Rattle.isolation.specs.Refusals.{invalidOpcode, hasOperand, absentByte, calledFor}
-use Rattle.isolation.specs.Service.{Entering, recorded, latchAfter}
+use Rattle.isolation.specs.Service.{Entering, recorded, latchAfter, Resuming}
 use Rattle.isolation.specs.Service.Entering.{at-boundary, by-smint}
+use Rattle.isolation.specs.Service.Resuming.{by-rsm}
 use Rattle.isolation.proofs.Answers.{Plain, plain, read-keeps, write-keeps, passes}
 use Rattle.isolation.proofs.Cases.{both, across, either, unlike}
 
@@ -38,15 +40,19 @@ pub record Able (m : Machine) (x : Memories) : Type 0 where
 -- an outcome of the step s from m and x, and the number that it is refused by, or 0
 pub data Does (m : Machine) (x : Memories) (s : Step) : Outcome → ℕ → Type 0 where
   refuses : (a : Answer) → refusal a ≡ true → Does m x s (refused m x a) (numberOf a)
-  enters : (by : Entering s) → Able m x → Does m x s (entry m x (recorded m by) (latchAfter m by)) 0
+  enters : (by : Entering m s) → Able m x → Does m x s (entry m x (recorded m by) (latchAfter m by)) 0
+  resumes : Resuming m s → Does m x s (ends (resume m (x .management)) x) 0
   neither : (o : Outcome) → Plain (o .stepped .answer) → Does m x s o 0
 
--- an SMI is taken only where they are enabled
-pub taken-enabled : (m : Machine) (asserted : Bool) → taken m asserted ≡ true → enabled (settingsOf m) ≡ true
+-- where an SMI is taken
+pub taken-where : (m : Machine) (asserted : Bool) → taken m asserted ≡ true
+    → (m .inside ≡ false) × (enabled (settingsOf m) ≡ true) × ((asserted || m .latched) ≡ true)
 unfolding taken
-taken-enabled m asserted e =
+taken-where m asserted e =
     let on = enabled (settingsOf m) in
-    and-eq-true-iff (not (m .inside)) on .0 (and-eq-true-iff (not (m .inside) && on) (asserted || m .latched) .0 e .0) .1
+    let p = and-eq-true-iff (not (m .inside) && on) (asserted || m .latched) .0 e in
+    let q = and-eq-true-iff (not (m .inside)) on .0 (p .0) in
+    (not-true (m .inside) (q .0), q .1, p .1)
 
 module _ (m : Machine) (x : Memories) where
   operated-does : (op modrm a next : ℕ) (o : Operation) → operationOf op modrm ≡ o → wrongSizes x ≡ false → valid m o ≡ true
@@ -54,16 +60,16 @@ module _ (m : Machine) (x : Memories) where
   unfolding operated saved restored resume valid permitted
   operated-does op modrm a next (Save name) d z e =
       across (Does m x (Opcode op modrm a next)) (there (window m) x a operandLength)
-      (λ k. Does.neither _ (plain refl refl)) (λ k. Does.refuses Absent refl)
+      (λ k. Does.neither _ (plain refl refl refl)) (λ k. Does.refuses Absent refl)
   operated-does op modrm a next (Restore name) d z e =
       across (λ (r : Stepped) (n : ℕ). Does m x (Opcode op modrm a next) (ends r x) n) (there (window m) x a operandLength)
-      (λ k. Does.neither _ (plain refl refl)) (λ k. Does.refuses Absent refl)
+      (λ k. Does.neither _ (plain refl refl refl)) (λ k. Does.refuses Absent refl)
   operated-does op modrm a next Smint d z e =
       let p = and-eq-true-iff _ _ .0 e .0 in
       let q = and-eq-true-iff _ _ .0 (and-eq-true-iff _ _ .0 p .0) .0 in
       let r = and-eq-true-iff _ _ .0 q in
-      Does.enters (by-smint d) (record { sizes = z; on = r .0; usable = r .1 })
-  operated-does op modrm a next Rsm d z e = Does.neither _ (plain refl refl)
+      Does.enters (by-smint d e) (record { sizes = z; on = r .0; usable = r .1 })
+  operated-does op modrm a next Rsm d z e = Does.resumes (by-rsm d e)
   operated-does op modrm a next Undefined d z e = unlike e (and-false (permitted m))
 
   enabled-able : wrongSizes x ≡ false → enabled (settingsOf m) ≡ true → Able m x
@@ -77,20 +83,20 @@ module _ (m : Machine) (x : Memories) where
   unfolding boundaryStep
   boundary-does smi current i z =
       either (λ (o : Outcome). Does m x (Boundary smi current i) o 0) (taken m (eqb smi 1))
-      (λ k. Does.enters at-boundary (enabled-able z (taken-enabled m (eqb smi 1) k)))
+      (λ k. let t = taken-where m (eqb smi 1) k in Does.enters (at-boundary (t .0) (t .1) (t .2)) (enabled-able z (t .1)))
       (λ k. Does.neither _ (passes m (eqb smi 1) .0))
 
   performed-does : (s : Step) → Taken (m .halted) x s
       → Does m x s (performed m x s) (cond (invalidOpcode m s) 4 (cond (absentByte m x s) 5 0))
   unfolding performed reads writes opcodeStep malformedOn
-  performed-does Reset t = Does.neither _ (plain refl refl)
-  performed-does (Registers eip eflags cr0 dr7 selector descriptor level writable) t = Does.neither _ (plain refl refl)
+  performed-does Reset t = Does.neither _ (plain refl refl refl)
+  performed-does (Registers eip eflags cr0 dr7 selector descriptor level writable) t = Does.neither _ (plain refl refl refl)
   performed-does (Read width a) t =
       across (λ (r : Answer) (n : ℕ). Does m x (Read width a) (ends (gives m r) x) n) (there (window m) x a width)
-      (λ k. Does.neither _ (plain refl refl)) (λ k. Does.refuses Absent refl)
+      (λ k. Does.neither _ (plain refl refl refl)) (λ k. Does.refuses Absent refl)
   performed-does (Write width a v) t =
       across (λ (r : Reached) (n : ℕ). Does m x (Write width a v) (ends (gives m (r .answer)) (r .memory)) n) (there (window m) x a width)
-      (λ k. Does.neither _ (plain refl refl)) (λ k. Does.refuses Absent refl)
+      (λ k. Does.neither _ (plain refl refl refl)) (λ k. Does.refuses Absent refl)
   performed-does (PortRead port) t = Does.neither _ (read-keeps (m .config) port .0)
   performed-does (PortWrite port v) t = Does.neither _ (write-keeps (m .config) port v (m .inside) .0)
   performed-does (Opcode op modrm a next) t =
@@ -98,8 +104,8 @@ module _ (m : Machine) (x : Memories) where
       (λ k. operated-does op modrm a next (operationOf op modrm) refl (t .sizes) k) (λ k. Does.refuses Invalid refl)
   performed-does (Boundary smi current i) t = boundary-does smi current i (t .sizes)
   performed-does UnnamedBoundary t = unlike refl (t .formed)
-  performed-does Halt t = Does.neither _ (plain refl refl)
-  performed-does Wake t = Does.neither _ (plain refl refl)
+  performed-does Halt t = Does.neither _ (plain refl refl refl)
+  performed-does Wake t = Does.neither _ (plain refl refl refl)
 
   pub step-does : (s : Step) → Does m x s (stepped m x s) (calledFor m x s)
   unfolding stepped calledFor firstRefusal

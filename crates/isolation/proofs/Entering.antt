@@ -1,4 +1,4 @@
--- The header in a memory, and the steps that enter. Assumes nothing.
+-- The header in a memory, and the steps that enter or resume. Assumes nothing.
 use mathlib.Core.Path.{_≡_, refl}
 use mathlib.Core.List.{List, map}
 use Prim.Native.Nat.{ℕ, _+_, _≤_}
@@ -17,10 +17,10 @@ use Rattle.header.specs.declared.Saved.{Saved}
 use Rattle.header.specs.Header.{contents, upward, headerBytes, headed}
 use Rattle.header.proofs.ReadBack.{length-bytes}
 use Rattle.machine.specs.declared.Machine.{Machine}
-use Rattle.machine.specs.Outcomes.{Outcome}
-use Rattle.machine.specs.Service.{settingsOf, entry}
+use Rattle.machine.specs.Outcomes.{Outcome, ends}
+use Rattle.machine.specs.Service.{settingsOf, entry, resume}
 use Rattle.machine.specs.Steps.{stepped}
-use Rattle.isolation.specs.Service.{answerTo, OnlyHeader, Entering, recorded, latchAfter}
+use Rattle.isolation.specs.Service.{answerTo, OnlyHeader, Entering, recorded, latchAfter, Resuming}
 use Rattle.isolation.proofs.Cases.{unlike}
 use Rattle.isolation.proofs.Doing.{Able, Does, step-does}
 
@@ -51,15 +51,35 @@ room m x able = omega (arith, sizes x (able .sizes) .management-whole, place-fit
 
 -- an outcome of the step s from m and x that is an entry
 pub record Enters (m : Machine) (x : Memories) (s : Step) (o : Outcome) : Type 0 where
-  pub by : Entering s
+  pub by : Entering m s
   pub able : Able m x
   pub outcome : o ≡ entry m x (recorded m by) (latchAfter m by)
 
 -- whatever answers 11 is one
+entered-by : {m : Machine} {x : Memories} {s : Step} {o : Outcome} {n : ℕ} → Does m x s o n → numberOf (o .stepped .answer) ≡ 11 → Enters m x s o
+unfolding resume
+entered-by (Does.refuses a e) h = unlike e (rw h)
+entered-by (Does.enters by able) h = record { by = by; able = able; outcome = refl }
+entered-by (Does.resumes by) h = absurd (omega arith)
+entered-by (Does.neither o p) h = absurd (eqb-false (numberOf (o .stepped .answer)) 11 (p .other) h)
+
 pub enters : (m : Machine) (x : Memories) (s : Step) → answerTo m x s ≡ 11 → Enters m x s (stepped m x s)
-enters m x s = go (step-does m x s)
-  where
-    go : {o : Outcome} {n : ℕ} → Does m x s o n → numberOf (o .stepped .answer) ≡ 11 → Enters m x s o
-    go (Does.refuses a e) h = unlike e (rw h)
-    go (Does.enters by able) h = record { by = by; able = able; outcome = refl }
-    go (Does.neither o p) h = absurd (eqb-false (numberOf (o .stepped .answer)) 11 (p .other) h)
+enters m x s = entered-by (step-does m x s)
+
+-- ---- the steps that resume
+
+-- an outcome of the step s from m and x that is a resumption
+pub record Resumes (m : Machine) (x : Memories) (s : Step) (o : Outcome) : Type 0 where
+  pub by : Resuming m s
+  pub outcome : o ≡ ends (resume m (x .management)) x
+
+-- whatever answers 12 is one
+resumed-by : {m : Machine} {x : Memories} {s : Step} {o : Outcome} {n : ℕ} → Does m x s o n → numberOf (o .stepped .answer) ≡ 12 → Resumes m x s o
+unfolding entry
+resumed-by (Does.refuses a e) h = unlike e (rw h)
+resumed-by (Does.enters by able) h = absurd (omega arith)
+resumed-by (Does.resumes by) h = record { by = by; outcome = refl }
+resumed-by (Does.neither o p) h = absurd (eqb-false (numberOf (o .stepped .answer)) 12 (p .stays) h)
+
+pub resumes : (m : Machine) (x : Memories) (s : Step) → answerTo m x s ≡ 12 → Resumes m x s (stepped m x s)
+resumes m x s = resumed-by (step-does m x s)

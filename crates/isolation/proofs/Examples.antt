@@ -9,30 +9,45 @@ use Rattle.region.specs.Region.{regionOf, sizeOf, usable, within}
 use Rattle.fields.specs.Fields.{numberBy}
 use Rattle.memory.specs.Memory.{Memories, memories, absent, allThere}
 use Rattle.steps.specs.declared.Answer.the-variants.{Done}
+use Rattle.steps.specs.Answers.{refusal}
 use Rattle.steps.specs.declared.Interruption.the-variants.{None}
 use Rattle.steps.specs.declared.Step.{Step}
 use Rattle.steps.specs.declared.Step.the-variants.{Read, PortRead, Opcode, Boundary, UnnamedBoundary, Halt}
+use Rattle.steps.specs.Widths.{StepFits}
 use Rattle.steps.specs.Steps.{isWidth, kindOf}
 use Rattle.refusals.specs.declared.Verdict.the-variants.{Allowed}
 use Rattle.refusals.specs.Refusals.{wrongSizes, malformedOn, programWhileHalted, firstRefusal}
 use Rattle.refusals.proofs.Laws.{taken-allowed}
 use Rattle.config.specs.Settings.{windowOf, enabled}
 use Rattle.opcodes.specs.Decode.{operationOf}
+use Rattle.machine.specs.declared.Machine.{Machine}
 use Rattle.machine.specs.Machines.{withHalted, resetSegments}
 use Rattle.machine.specs.Outcomes.{ends}
 use Rattle.machine.specs.Steps.{permitted, valid, haltStep, performed, stepped}
 use Rattle.machine.specs.Widths.{SegmentFits, MachineFits}
 use Rattle.runs.specs.Runs.{run, answersOf}
 use Rattle.isolation.specs.Refusals.{calledFor}
-use Rattle.isolation.specs.Service.{answerTo}
+use Rattle.isolation.specs.Service.{answerTo, Entering}
+use Rattle.isolation.specs.Service.Entering.{at-boundary, by-smint}
 use Rattle.isolation.specs.Isolation.{NoReset, UpToEntry, lastNumber}
-use Rattle.isolation.specs.Examples.{sample, locked, underSmac, stepsToEntry, IsolationExample, EntryExamples, RefusalExamples}
-use Rattle.isolation.proofs.Service.{performs, smi-enters, smint-enters}
+use Rattle.isolation.specs.Examples.{sample, locked, underSmac, filled, stepsToEntry, rsm, IsolationExample, ResumptionExample, EntryExample, EntryExamples, RefusalExamples}
+use Rattle.isolation.proofs.Service.{performs, resumed-allowed, enters-where-due, resumes-as-stated, resumes-as-entered}
 use Rattle.isolation.proofs.Tightness.{no-reset-asked, up-to-entry-asked}
 
--- the boundary that enters
+-- the boundary and the SMINT that enter
 abbrev entering : Step
 entering = Boundary 1 0x1000 None
+
+abbrev smint : Step
+smint = Opcode 0x7e 0 0 0x1002
+
+due-at-boundary : (halted : Bool) → Entering (withHalted locked halted) entering
+unfolding enabled usable regionOf sizeOf
+due-at-boundary halted = at-boundary refl refl refl
+
+due-by-smint : Entering underSmac smint
+unfolding operationOf valid permitted usable regionOf sizeOf
+due-by-smint = by-smint refl refl
 
 module _ (g : List ℕ) (long : length g ≡ 65536) where
   abbrev x : Memories
@@ -53,14 +68,17 @@ module _ (g : List ℕ) (long : length g ≡ 65536) where
   unfolding calledFor malformedOn programWhileHalted operationOf valid permitted windowOf within usable regionOf sizeOf absent allThere isWidth
   called-for = (rw whole, rw whole, rw whole, rw whole, rw whole)
 
-  enters-at-boundary : (halted : Bool) → answerTo (withHalted locked halted) x entering ≡ 11
-  unfolding malformedOn programWhileHalted enabled usable regionOf sizeOf
-  enters-at-boundary halted =
-      smi-enters (withHalted locked halted) x 1 0x1000 None (allowed halted entering (and-false halted) (and-false halted)) refl refl refl
+  boundary-allowed : (halted : Bool) → firstRefusal halted x entering ≡ Allowed
+  unfolding malformedOn programWhileHalted
+  boundary-allowed halted = allowed halted entering (and-false halted) (and-false halted)
 
-  enters-by-smint : answerTo underSmac x (Opcode 0x7e 0 0 0x1002) ≡ 11
-  unfolding malformedOn programWhileHalted operationOf valid permitted usable regionOf sizeOf
-  enters-by-smint = smint-enters underSmac x 0x7e 0 0 0x1002 (allowed false (Opcode 0x7e 0 0 0x1002) refl refl) refl refl
+  smint-allowed : firstRefusal false x smint ≡ Allowed
+  unfolding malformedOn programWhileHalted
+  smint-allowed = allowed false smint refl refl
+
+  refuses : refusal (stepped locked x UnnamedBoundary .stepped .answer) ≡ true
+  unfolding stepped firstRefusal malformedOn
+  refuses = rw whole
 
   halts : stepped locked x Halt ≡ ends (haltStep locked) x
   unfolding malformedOn programWhileHalted performed
@@ -71,10 +89,10 @@ module _ (g : List ℕ) (long : length g ≡ 65536) where
   answers = rw halts
 
   ends-at-entry : UpToEntry (answersOf (run locked x stepsToEntry))
-  ends-at-entry = rw answers (up-to-entry-asked .1 Done _ [] (λ e. omega arith) (up-to-entry-asked .0 _))
+  ends-at-entry = rw answers (up-to-entry-asked .2 Done _ [] (λ e. omega arith) (up-to-entry-asked .1 _))
 
   enters-last : lastNumber (answersOf (run locked x stepsToEntry)) ≡ 11
-  enters-last = rw answers (enters-at-boundary true)
+  enters-last = rw answers (enters-where-due (withHalted locked true) x entering (boundary-allowed true) (due-at-boundary true))
 
 pub full : (b : ℕ) → length (replicate 65536 b) ≡ 65536
 full b = length-replicate 65536 b
@@ -83,7 +101,7 @@ pub refusal-examples : RefusalExamples
 unfolding calledFor wrongSizes
 refusal-examples =
     let c = called-for (replicate 65536 0) (full 0) in
-    (c .0, refl, c .1, c .2, c .3, c .4)
+    (c .0, refl, c .1, c .2, c .3, c .4, refuses (replicate 65536 0) (full 0))
 
 flat-fits : SegmentFits (resetSegments .ds)
 unfolding numberBy
@@ -108,18 +126,32 @@ sample-fits ccr1 ccr3 h k = record {
   index = omega arith;
 }
 
+-- an entry that is due, and RSM after it
+entry-example : (m : Machine) (s : Step) → MachineFits m → StepFits s → firstRefusal (m .halted) (filled 0) s ≡ Allowed → Entering m s
+    → EntryExample m s
+entry-example m s f w may by =
+    let e = enters-where-due m (filled 0) s may by in
+    let o = stepped m (filled 0) s in
+    let r = resumes-as-entered m (filled 0) s 0 0 0 f w e by .answer in
+    record {
+      machine = f;
+      step = w;
+      allowed = may;
+      by = by;
+      entered = e;
+      back = record {
+        allowed = resumed-allowed (o .stepped .machine) (o .memory) rsm r;
+        by = resumes-as-stated (o .stepped .machine) (o .memory) rsm r .by;
+        resumed = r;
+      };
+    }
+
 pub entry-examples : EntryExamples
 entry-examples = (
-  record {
-    machine = sample-fits 0x02 0x01 (omega arith) (omega arith);
-    step = (omega arith, omega arith, tt);
-    entered = enters-at-boundary (replicate 65536 0) (full 0) false;
-  },
-  record {
-    machine = sample-fits 0x06 0x01 (omega arith) (omega arith);
-    step = (omega arith, omega arith, omega arith, omega arith);
-    entered = enters-by-smint (replicate 65536 0) (full 0);
-  },
+  entry-example locked entering (sample-fits 0x02 0x01 (omega arith) (omega arith)) (omega arith, omega arith, tt)
+      (boundary-allowed (replicate 65536 0) (full 0) false) (due-at-boundary false),
+  entry-example underSmac smint (sample-fits 0x06 0x01 (omega arith) (omega arith)) (omega arith, omega arith, omega arith, omega arith)
+      (smint-allowed (replicate 65536 0) (full 0)) due-by-smint,
 )
 
 steps-none : NoReset stepsToEntry

@@ -5,8 +5,8 @@ use mathlib.Core.List.{List, [], _∷_}
 use Prim.Native.Nat.{ℕ, suc, _+_, _-_, _≤_, _<_}
 use native.Mathlib.Omega.{arith}
 use lib.Dec.{eqb}
-use lib.ListN.{length, take, length-take}
-use lib.Seq.{sets, getD-take}
+use lib.ListN.{length, take}
+use lib.Seq.{sets}
 use borrow.Author.Tests.{eqb-false}
 use Rattle.region.specs.Region.{within}
 use Rattle.fields.specs.Fields.{fieldAt, bytesOf}
@@ -39,7 +39,7 @@ use Rattle.isolation.specs.Service.{OnlyHeader}
 use Rattle.isolation.specs.Isolation.{Start, NoReset, UpToEntry, lastNumber, SameHeader, Agree, Isolated, throughEntry, SameAnswers}
 use Rattle.isolation.proofs.Answers.{read-keeps, write-keeps, passes}
 use Rattle.isolation.proofs.Cases.{both}
-use Rattle.isolation.proofs.Doing.{taken-enabled}
+use Rattle.isolation.proofs.Doing.{taken-where}
 use Rattle.isolation.proofs.Entering.{only-header}
 
 -- a later machine of a run that began on start: outside the mode, the locked settings as they were
@@ -151,7 +151,7 @@ module _ (start : Machine) (from : Start start) (g h : List ℕ) (main : List �
       boundary-one asserted current i =
           let p = passes m asserted in
           both P (taken m asserted)
-          (λ k. entry-one (savedAtBoundary m current i) false (taken-enabled m asserted k))
+          (λ k. entry-one (savedAtBoundary m current i) false (taken-where m asserted k .1))
           (λ k. quiet (passed m asserted) main (p .0 .other) (rw (p .1 (held .outside)) held))
 
       performed-one : (s : Step) → (s ≡ Reset → ⊥) → P (performed m (memories main g) s) (performed m (memories main h) s)
@@ -253,9 +253,9 @@ module _ (start : Machine) (from : Start start) (g h : List ℕ) (equal : length
       (all (t ∷ ss) (o .stepped .machine) (p .stepped .machine) (o .memory) (p .memory) a′
       (record { outside = b .2; settings = c .settings }) (λ i l. none (suc i) (omega arith)) (λ i l. up (suc i) (omega arith)))
 
-  cut : (b : Bool) (us vs : List Answer) → (b ≡ false → us ≡ vs) → cond b [] us ≡ cond b [] vs
-  cut true us vs f = refl
-  cut false us vs f = f refl
+  cut : (b : Bool) (ts us vs : List Answer) → (b ≡ false → us ≡ vs) → cond b ts us ≡ cond b ts vs
+  cut true ts us vs f = refl
+  cut false ts us vs f = f refl
 
   through : (ss : List Step) (m n : Machine) (x y : Memories) → Apart m n x y → Held start m → NoReset ss
       → throughEntry (answersOf (run m x ss)) ≡ throughEntry (answersOf (run n y ss))
@@ -266,18 +266,18 @@ module _ (start : Machine) (from : Start start) (g h : List ℕ) (equal : length
       let p = stepped n y s in
       let c = step-apart s m n x y a held (none 0 (omega arith)) in
       rw (← c .same)
-      (ap (λ (l : List Answer). o .stepped .answer ∷ l)
-      (cut (eqb (numberOf (o .stepped .answer)) 11) _ _
+      (cut (eqb (numberOf (o .stepped .answer)) 11) _ _ _
       (λ e. let b = c .before (eqb-false (numberOf (o .stepped .answer)) 11 e) in
-      through ss (o .stepped .machine) (o .stepped .machine) (o .memory) (p .memory)
+      ap (λ (l : List Answer). o .stepped .answer ∷ l)
+      (through ss (o .stepped .machine) (o .stepped .machine) (o .memory) (p .memory)
       (record { machine = refl; main = c .main; first = b .0; second = b .1 })
       (record { outside = b .2; settings = c .settings }) (λ i l. none (suc i) (omega arith)))))
 
 pub isolated : Isolated
-isolated m main g h ss from equal none k first second =
+isolated m main g h ss k from equal none first second =
     all m from g h equal (take k ss) m m (memories main g) (memories main h)
     (record { machine = refl; main = refl; first = refl; second = refl }) (record { outside = from .outside; settings = locked-refl })
-    (λ i l. let e = length-take k ss in rw (getD-take k ss i Wake (omega arith)) (none i (omega arith))) first
+    none first
 
 pub same-answers : SameAnswers
 same-answers m main g h ss from equal none =

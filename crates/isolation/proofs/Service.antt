@@ -11,10 +11,11 @@ use Rattle.steps.specs.declared.Interruption.{Interruption}
 use Rattle.steps.specs.declared.Interruption.the-variants.{None, Input, Output, StringInput, StringOutput, RepInput, RepOutput}
 use Rattle.steps.specs.declared.Step.{Step}
 use Rattle.steps.specs.declared.Step.the-variants.{Opcode, Boundary}
+use Rattle.steps.specs.Answers.{numberOf}
 use Rattle.steps.specs.Widths.{TransferFits, InterruptionFits, StepFits}
 use Rattle.refusals.specs.declared.Verdict.the-variants.{Allowed}
 use Rattle.refusals.specs.Refusals.{wrongSizes, malformedOn, programWhileHalted, firstRefusal}
-use Rattle.refusals.proofs.Laws.{taken-allowed}
+use Rattle.refusals.proofs.Laws.{taken-allowed, by-verdict}
 use Rattle.config.specs.Settings.{headerPlace}
 use Rattle.header.specs.Header.{sizeBits, portSize, cut, trapOf, headerBytes, headed}
 use Rattle.header.specs.Entry.{entryRegisters}
@@ -26,26 +27,35 @@ use Rattle.machine.specs.Outcomes.{Outcome, ends}
 use Rattle.machine.specs.Service.{settingsOf, enteredMachine, entry, taken, boundaryStep, resume}
 use Rattle.machine.specs.Steps.{permitted, valid, operated, opcodeStep, performed, decided, stepped}
 use Rattle.machine.specs.Widths.{MachineFits}
-use Rattle.isolation.specs.Service.{Entering, recorded, latchAfter, SmiEnters, SmintEnters, EntersAsStated, Resume, ResumesAsEntered}
+use Rattle.isolation.specs.Service.{answerTo, Entering, recorded, latchAfter, EntersWhereDue, EntersAsStated, ResumesWhereDue, ResumesAsStated, Resume, ResumesAsEntered}
 use Rattle.isolation.specs.Service.Entering.{at-boundary, by-smint}
+use Rattle.isolation.specs.Service.Resuming.{by-rsm}
 use Rattle.isolation.proofs.Cases.{either}
 use Rattle.isolation.proofs.Doing.{Able}
-use Rattle.isolation.proofs.Entering.{only-header, room, enters}
+use Rattle.isolation.proofs.Entering.{only-header, room, enters, resumes}
 
 -- a step that is allowed is performed
 pub performs : (m : Machine) (x : Memories) (s : Step) → firstRefusal (m .halted) x s ≡ Allowed → stepped m x s ≡ performed m x s
 unfolding stepped
 performs m x s e = ap (decided m x s) e
 
--- ---- which steps enter
+-- and one that resumes is allowed
+pub resumed-allowed : (m : Machine) (x : Memories) (s : Step) → answerTo m x s ≡ 12 → firstRefusal (m .halted) x s ≡ Allowed
+unfolding stepped
+resumed-allowed m x s =
+    by-verdict (m .halted) x s (λ v. numberOf (decided m x s v .stepped .answer) ≡ 12 → v ≡ Allowed)
+    (λ k h. absurd (omega arith)) (λ k h. absurd (omega arith)) (λ k h. absurd (omega arith)) (λ t h. refl)
 
-pub smi-enters : SmiEnters
-unfolding performed boundaryStep taken entry
-smi-enters m x smi current i may outside on asked = rw (performs m x (Boundary smi current i) may, outside, on, asked)
+-- ---- which steps enter, and which resume
 
-pub smint-enters : SmintEnters
-unfolding performed opcodeStep operated entry
-smint-enters m x op modrm a next may d v = rw (performs m x (Opcode op modrm a next) may, d, v)
+pub enters-where-due : EntersWhereDue
+unfolding performed boundaryStep taken opcodeStep operated entry
+enters-where-due m x s may (at-boundary {smi} {current} {i} outside on asked) = rw (performs m x (Boundary smi current i) may, outside, on, asked)
+enters-where-due m x s may (by-smint {op} {modrm} {a} {next} d v) = rw (performs m x (Opcode op modrm a next) may, d, v)
+
+pub resumes-where-due : ResumesWhereDue
+unfolding performed opcodeStep operated resume
+resumes-where-due m x s may (by-rsm {op} {modrm} {a} {next} d v) = rw (performs m x (Opcode op modrm a next) may, d, v)
 
 -- ---- what entry writes and loads
 
@@ -72,6 +82,24 @@ enters-as-stated m x s h =
       management = only-header (x .management) (headerPlace (settingsOf m)) (recorded m (e .by)) (room m x (e .able));
     })
 
+-- ---- what RSM loads
+
+pub resumes-as-stated : ResumesAsStated
+unfolding resume
+resumes-as-stated m x s h =
+    let r = resumes m x s h in
+    rw (r .outcome)
+    (record {
+      by = r .by;
+      registers = refl;
+      halted = refl;
+      inside = refl;
+      latched = refl;
+      segments = refl;
+      config = refl;
+      memory = refl;
+    })
+
 -- ---- the numbers that are recorded have the header's widths
 
 transfer-fits : (t : Transfer) → TransferFits t → portSize t < 2 ^ 32
@@ -96,8 +124,8 @@ trap-fits (StringOutput t index) f = (transfer-fits t (f .0), cut-fits t (f .0),
 trap-fits (RepInput index) f = (omega arith, omega arith, f)
 trap-fits (RepOutput t index) f = (transfer-fits t (f .0), cut-fits t (f .0), f .1)
 
-recorded-fits : (m : Machine) {s : Step} (by : Entering s) → MachineFits m → StepFits s → SavedFits (recorded m by)
-recorded-fits m (at-boundary {smi} {current} {i}) f w =
+recorded-fits : (m : Machine) {s : Step} (by : Entering m s) → MachineFits m → StepFits s → SavedFits (recorded m by)
+recorded-fits m (at-boundary {smi} {current} {i} outside on asked) f w =
     let r = f .registers in
     let k = trap-fits i (w .2) in
     record {
@@ -108,20 +136,20 @@ recorded-fits m (at-boundary {smi} {current} {i}) f w =
       value = k .1;
       index = k .2;
     }
-recorded-fits m (by-smint {op} {modrm} {a} {next} e) f w =
+recorded-fits m (by-smint {op} {modrm} {a} {next} d v) f w =
     let r = f .registers in
     record { registers = r; current = r .eip; next = w .3; transfer = omega arith; value = omega arith; index = omega arith }
 
--- ---- what RSM loads back
+-- ---- what RSM loads back right after entry
 
 -- a step enters in one way only, and records the registers
-same-registers : (m : Machine) {s : Step} (by : Entering s) → recorded m by .registers ≡ m .registers
-same-registers m at-boundary = refl
-same-registers m (by-smint e) = refl
+same-registers : (m : Machine) {s : Step} (by : Entering m s) → recorded m by .registers ≡ m .registers
+same-registers m (at-boundary outside on asked) = refl
+same-registers m (by-smint d v) = refl
 
-same-next : (m : Machine) {s : Step} (by by′ : Entering s) → recorded m by .next ≡ recorded m by′ .next
-same-next m at-boundary at-boundary = refl
-same-next m (by-smint e) (by-smint e′) = refl
+same-next : (m : Machine) {s : Step} (by by′ : Entering m s) → recorded m by .next ≡ recorded m by′ .next
+same-next m (at-boundary o n k) (at-boundary o′ n′ k′) = refl
+same-next m (by-smint d v) (by-smint d′ v′) = refl
 
 rsm-resumes : (m : Machine) (x : Memories) (modrm a next : ℕ)
     → wrongSizes x ≡ false → m .halted ≡ false → m .inside ≡ true → permitted m ≡ true
@@ -131,7 +159,7 @@ rsm-resumes m x modrm a next sizes awake inside may =
     let s = Opcode 0xaa modrm a next in
     performs m x s (taken-allowed (m .halted) x s (record { sizes = sizes; formed = rw awake; awake = rw awake })) ∙ rw (may, inside)
 
-module _ (m : Machine) (x : Memories) (s : Step) (by by′ : Entering s) (able : Able m x) (modrm a next : ℕ)
+module _ (m : Machine) (x : Memories) (s : Step) (by by′ : Entering m s) (able : Able m x) (modrm a next : ℕ)
     (fits : SavedFits (recorded m by)) where
   abbrev inside : Outcome
   inside = entry m x (recorded m by) (latchAfter m by)

@@ -1,6 +1,6 @@
 -- How tight the statements are (01). Assumes nothing.
 use mathlib.Core.Path.{_≡_, refl, sym, ap, subst, _∙_}
-use mathlib.Core.Bool.{Bool, true, false}
+use mathlib.Core.Bool.{Bool, true, false, cond}
 use mathlib.Core.List.{List, [], _∷_, _++_}
 use Prim.Native.Nat.{ℕ, zero, suc, _+_, _-_, _/_, _%_}
 use native.Mathlib.Omega.{arith}
@@ -22,10 +22,10 @@ use Rattle.header.specs.Entry.{entryRegisters}
 use Rattle.machine.specs.declared.Machine.{Machine}
 use Rattle.machine.specs.Machines.{machine}
 use Rattle.machine.specs.Outcomes.{gives, ends}
-use Rattle.machine.specs.Service.{settingsOf, enteredMachine, entry}
+use Rattle.machine.specs.Service.{settingsOf, enteredMachine, entry, resume}
 use Rattle.runs.specs.Runs.{Run, run, answersOf}
-use Rattle.isolation.specs.Isolation.{NoReset, UpToEntry, Agree}
-use Rattle.isolation.specs.Tightness.{StartAsked, NoResetAsked, UpToEntryAsked, LastIsLast, WholeList, HeaderDetermines, EntryDetermines, ResumeDetermines, second, AgreementDetermines}
+use Rattle.isolation.specs.Isolation.{NoReset, UpToEntry, Agree, throughEntry}
+use Rattle.isolation.specs.Tightness.{StartAsked, NoResetAsked, UpToEntryAsked, LastIsLast, NoEntry, ThroughEntryAsked, WholeList, HeaderDetermines, EntryDetermines, ResumptionDetermines, ResumeDetermines, second, AgreementDetermines}
 use Rattle.isolation.proofs.Isolation.{isolated}
 
 -- ---- the hypotheses ask for no more
@@ -42,7 +42,7 @@ no-reset-asked = (λ i l. absurd (omega arith), more)
     more s ss n rest (suc i) l = rest i (omega arith)
 
 pub up-to-entry-asked : UpToEntryAsked
-up-to-entry-asked = (λ a i l. absurd (omega arith), more)
+up-to-entry-asked = (λ i l. absurd (omega arith), λ a i l. absurd (omega arith), more)
   where
     more : (a b : Answer) (bs : List Answer) → (numberOf a ≡ 11 → ⊥) → UpToEntry (b ∷ bs) → UpToEntry (a ∷ b ∷ bs)
     more a b bs n rest zero l = n
@@ -53,12 +53,25 @@ last-is-last bs a =
     let e : length (bs ++ (a ∷ [])) - 1 ≡ length bs = omega (arith, length-append bs (a ∷ [])) in
     rw e (ap numberOf (getD-append-seam bs a [] Done))
 
+pub through-entry-asked : ThroughEntryAsked
+unfolding throughEntry
+through-entry-asked = (first, all)
+  where
+    first : (bs cs : List Answer) (a : Answer) → NoEntry bs → numberOf a ≡ 11 → throughEntry (bs ++ (a ∷ cs)) ≡ bs ++ (a ∷ [])
+    first [] cs a none e = rw (eq-eqb _ 11 e)
+    first (b ∷ bs) cs a none e =
+        rw (ne-eqb (numberOf b) 11 (none 0 (omega arith)), first bs cs a (λ i l. none (suc i) (omega arith)) e)
+
+    all : (bs : List Answer) → NoEntry bs → throughEntry bs ≡ bs
+    all [] none = refl
+    all (b ∷ bs) none = rw (ne-eqb (numberOf b) 11 (none 0 (omega arith)), all bs (λ i l. none (suc i) (omega arith)))
+
 pub whole-list : WholeList
 whole-list m main g h ss from equal none =
     let P : List Step → Type 0
-    = λ l. UpToEntry (answersOf (run m (memories main g) l)) → UpToEntry (answersOf (run m (memories main h) l))
+    = λ l. NoReset l → UpToEntry (answersOf (run m (memories main g) l)) → UpToEntry (answersOf (run m (memories main h) l))
     → Agree m g h (run m (memories main g) l) (run m (memories main h) l) in
-    subst P (take-length ss) (isolated m main g h ss from equal none (length ss))
+    subst P (take-length ss) (isolated m main g h ss (length ss) from equal) none
 
 -- ---- the claims leave nothing open
 
@@ -108,6 +121,12 @@ entry-determines m x s o answer e =
     (e .segments i) (e .halted i) (e .inside i) (e .latched i) (e .config i))
     (a i))
     (memories (e .main i) (g i))
+
+pub resumption-determines : ResumptionDetermines
+unfolding resume
+resumption-determines m x s o answer r =
+    let a = numbered (o .stepped .answer) .1 answer in
+    λ i. ends (gives (machine (r .registers i) (r .segments i) (r .halted i) (r .inside i) (r .latched i) (r .config i)) (a i)) (r .memory i)
 
 pub resume-determines : ResumeDetermines
 resume-determines m s by e o r =

@@ -8,13 +8,17 @@ use Rattle.memory.specs.Memory.{Memories, memories}
 use Rattle.steps.specs.declared.Step.{Step}
 use Rattle.steps.specs.declared.Step.the-variants.{Reset, Read, PortRead, Opcode, Boundary, UnnamedBoundary, Halt}
 use Rattle.steps.specs.declared.Interruption.the-variants.{None}
+use Rattle.steps.specs.Answers.{refusal}
 use Rattle.steps.specs.Widths.{StepFits}
+use Rattle.refusals.specs.declared.Verdict.the-variants.{Allowed}
+use Rattle.refusals.specs.Refusals.{firstRefusal}
 use Rattle.machine.specs.declared.Machine.{Machine}
 use Rattle.machine.specs.Machines.{machine, resetRegisters, resetSegments}
+use Rattle.machine.specs.Steps.{stepped}
 use Rattle.machine.specs.Widths.{MachineFits}
 use Rattle.runs.specs.Runs.{run, answersOf}
 use Rattle.isolation.specs.Refusals.{calledFor}
-use Rattle.isolation.specs.Service.{answerTo}
+use Rattle.isolation.specs.Service.{answerTo, Entering, Resuming}
 use Rattle.isolation.specs.Isolation.{Start, NoReset, UpToEntry, lastNumber}
 
 -- a machine with the registers of a reset, SMAR 000683h, and CCR1 and CCR3 as given
@@ -46,16 +50,27 @@ pub record IsolationExample : Type 0 where
   pub second : UpToEntry (answersOf (run locked (filled 1) stepsToEntry))
   pub entered : lastNumber (answersOf (run locked (filled 0) stepsToEntry)) ≡ 11
 
--- demand 2: an entry at a boundary, and one by SMINT, of numbers of their widths
+-- demand 2: an entry at a boundary, and one by SMINT, of numbers of their widths; and RSM right after each
+abbrev pub rsm : Step
+rsm = Opcode 0xaa 0 0 0
+
+pub record ResumptionExample (m : Machine) (x : Memories) (s : Step) : Type 0 where
+  pub allowed : firstRefusal (m .halted) x s ≡ Allowed
+  pub by : Resuming m s
+  pub resumed : answerTo m x s ≡ 12
+
 pub record EntryExample (m : Machine) (s : Step) : Type 0 where
   pub machine : MachineFits m
   pub step : StepFits s
+  pub allowed : firstRefusal (m .halted) (filled 0) s ≡ Allowed
+  pub by : Entering m s
   pub entered : answerTo m (filled 0) s ≡ 11
+  pub back : ResumptionExample (stepped m (filled 0) s .stepped .machine) (stepped m (filled 0) s .memory) rsm
 
 abbrev pub EntryExamples : Type 0
 EntryExamples = EntryExample locked (Boundary 1 0x1000 None) × EntryExample underSmac (Opcode 0x7e 0 0 0x1002)
 
--- demand 1: each refusal is called for somewhere, and none elsewhere
+-- demand 1: a step that no refusal is called for, one for each of the five, and one that is refused
 abbrev pub RefusalExamples : Type 0
 RefusalExamples =
     (calledFor locked (filled 0) Halt ≡ 0)
@@ -64,3 +79,4 @@ RefusalExamples =
     × (calledFor (machine resetRegisters resetSegments true false false (locked .config)) (filled 0) (PortRead 0x22) ≡ 3)
     × (calledFor locked (filled 0) (Opcode 0xaa 0 0 0) ≡ 4)
     × (calledFor locked (filled 0) (Read 4 0) ≡ 5)
+    × (refusal (stepped locked (filled 0) UnnamedBoundary .stepped .answer) ≡ true)

@@ -27,7 +27,7 @@ pub record Start (m : Machine) : Type 0 where
   pub outside : m .inside ≡ false
   pub locked : smiLock (settingsOf m) ≡ true
   pub closed : smac (settingsOf m) ≡ false
-  -- it may be halted, and have an SMI latched
+  -- The machine may be halted and have an SMI latched, and the memories may be of wrong sizes.
 
 -- and of the steps
 abbrev pub NoReset : List Step → Type 0
@@ -41,7 +41,7 @@ UpToEntry answers = (i : ℕ) → suc i < length answers → numberOf (getD answ
 abbrev pub lastNumber : List Answer → ℕ
 lastNumber answers = numberOf (getD answers (length answers - 1) Done)
 
--- both memories got the header of one record, at the place that the settings of the start give
+-- both memories got the header of one record, at the place that the settings of the start give; the record is the one of EntersAsStated
 pub record SameHeader (m : Machine) (g h g′ h′ : List ℕ) : Type 0 where
   pub saved : Saved
   pub first : OnlyHeader g g′ (headerPlace (settingsOf m)) (headerBytes saved)
@@ -56,10 +56,10 @@ pub record Agree (m : Machine) (g h : List ℕ) (a b : Run) : Type 0 where
   pub before : (lastNumber (answersOf a) ≡ 11 → ⊥) → (a .memory .management ≡ g) × (b .memory .management ≡ h)
   pub entered : lastNumber (answersOf a) ≡ 11 → SameHeader m g h (a .memory .management) (b .memory .management)
 
--- the claim: any such machine, memories and list of steps; after any number k of the steps
+-- the claim: any such machine, memories and list of steps; after any number k of the steps, of which none is a reset
 abbrev pub Isolated : Type 0
 Isolated =
-    (m : Machine) (main g h : List ℕ) (ss : List Step) → Start m → length g ≡ length h → NoReset ss → (k : ℕ)
+    (m : Machine) (main g h : List ℕ) (ss : List Step) (k : ℕ) → Start m → length g ≡ length h → NoReset (take k ss)
     → let a = run m (memories main g) (take k ss) in
     let b = run m (memories main h) (take k ss) in
     UpToEntry (answersOf a) → UpToEntry (answersOf b) → Agree m g h a b
@@ -67,7 +67,7 @@ Isolated =
 -- the answers up to and including the first that is "entered"
 unfoldable pub throughEntry : List Answer → List Answer
 throughEntry [] = []
-throughEntry (a ∷ rest) = a ∷ cond (eqb (numberOf a) 11) [] (throughEntry rest)
+throughEntry (a ∷ rest) = cond (eqb (numberOf a) 11) (a ∷ []) (a ∷ throughEntry rest)
 
 -- the same claim of the answers alone: whatever the whole list goes on to do, they are the same up to the first entry
 abbrev pub SameAnswers : Type 0

@@ -1,4 +1,5 @@
--- Demand 2: which steps enter, what entry writes and loads, and what RSM right after it loads back. "Entered" is answer 11, "resumed" 12.
+-- Demand 2: which steps enter, what entry writes and loads, which steps resume and what they load, and what RSM right after entry loads back.
+-- "Entered" is answer 11, "resumed" 12.
 use Prim.Native.Nat.{ℕ, _+_, _≤_, _<_}
 use mathlib.Core.Path.{_≡_}
 use mathlib.Core.Bool.{Bool, true, false, _||_}
@@ -13,12 +14,12 @@ use Rattle.steps.specs.Answers.{numberOf}
 use Rattle.steps.specs.Widths.{StepFits}
 use Rattle.refusals.specs.declared.Verdict.the-variants.{Allowed}
 use Rattle.refusals.specs.Refusals.{firstRefusal}
-use Rattle.opcodes.specs.declared.Operation.the-variants.{Smint}
+use Rattle.opcodes.specs.declared.Operation.the-variants.{Smint, Rsm}
 use Rattle.opcodes.specs.Decode.{operationOf}
 use Rattle.config.specs.Settings.{regionIn, enabled, headerPlace}
 use Rattle.header.specs.declared.Saved.{Saved}
 use Rattle.header.specs.declared.Level.the-variants.{Zero}
-use Rattle.header.specs.Header.{headerBytes, withEip}
+use Rattle.header.specs.Header.{headerBytes, resumed, withEip}
 use Rattle.header.specs.Entry.{entryCr0, entryCs}
 use Rattle.machine.specs.declared.Machine.{Machine}
 use Rattle.machine.specs.Outcomes.{Outcome}
@@ -39,34 +40,33 @@ pub record OnlyHeader (g g′ : List ℕ) (at : ℕ) (bytes : List ℕ) : Type 0
   pub header : (i : ℕ) → i < 48 → getD g′ (at + i) 0 ≡ getD bytes i 0
   pub above : (i : ℕ) → at + 48 ≤ i → getD g′ i 0 ≡ getD g i 0
 
--- the two ways to enter: a boundary, and SMINT
-pub data Entering : Step → Type 0 where
-  at-boundary : {smi current : ℕ} {i : Interruption} → Entering (Boundary smi current i)
-  by-smint : {op modrm a next : ℕ} → operationOf op modrm ≡ Smint → Entering (Opcode op modrm a next)
+-- The two ways to enter, each with its condition: a boundary outside the mode, where SMIs are enabled and one is asserted or latched, and a
+-- valid SMINT.
+pub data Entering (m : Machine) : Step → Type 0 where
+  at-boundary : {smi current : ℕ} {i : Interruption}
+      → m .inside ≡ false → enabled (settingsOf m) ≡ true → (eqb smi 1 || m .latched) ≡ true
+      → Entering m (Boundary smi current i)
+  by-smint : {op modrm a next : ℕ}
+      → operationOf op modrm ≡ Smint → valid m Smint ≡ true
+      → Entering m (Opcode op modrm a next)
 
 -- what each records, and how it leaves the latch
-abbrev pub recorded : Machine → {s : Step} → Entering s → Saved
-recorded m (Entering.at-boundary {smi} {current} {i}) = savedAtBoundary m current i
-recorded m (Entering.by-smint {op} {modrm} {a} {next} e) = savedBySmint m next
+abbrev pub recorded : (m : Machine) → {s : Step} → Entering m s → Saved
+recorded m (Entering.at-boundary {smi} {current} {i} outside on asked) = savedAtBoundary m current i
+recorded m (Entering.by-smint {op} {modrm} {a} {next} d v) = savedBySmint m next
 
-abbrev pub latchAfter : Machine → {s : Step} → Entering s → Bool
-latchAfter m (Entering.at-boundary {smi} {current} {i}) = false
-latchAfter m (Entering.by-smint {op} {modrm} {a} {next} e) = m .latched
+abbrev pub latchAfter : (m : Machine) → {s : Step} → Entering m s → Bool
+latchAfter m (Entering.at-boundary {smi} {current} {i} outside on asked) = false
+latchAfter m (Entering.by-smint {op} {modrm} {a} {next} d v) = m .latched
 
--- An SMI that is asserted or latched enters at a boundary outside the mode where SMIs are enabled, unless refused; so does a valid SMINT.
-abbrev pub SmiEnters : Type 0
-SmiEnters =
-    (m : Machine) (x : Memories) (smi current : ℕ) (i : Interruption) → firstRefusal (m .halted) x (Boundary smi current i) ≡ Allowed
-    → m .inside ≡ false → enabled (settingsOf m) ≡ true → (eqb smi 1 || m .latched) ≡ true → answerTo m x (Boundary smi current i) ≡ 11
-
-abbrev pub SmintEnters : Type 0
-SmintEnters =
-    (m : Machine) (x : Memories) (op modrm a next : ℕ) → firstRefusal (m .halted) x (Opcode op modrm a next) ≡ Allowed
-    → operationOf op modrm ≡ Smint → valid m Smint ≡ true → answerTo m x (Opcode op modrm a next) ≡ 11
+-- Both enter, unless the step is refused.
+abbrev pub EntersWhereDue : Type 0
+EntersWhereDue =
+    (m : Machine) (x : Memories) (s : Step) → firstRefusal (m .halted) x s ≡ Allowed → Entering m s → answerTo m x s ≡ 11
 
 -- entry writes the 48 header bytes and loads its state, and nothing else moves: m and x are before the step s, and o is after it
 pub record Entry (m : Machine) (x : Memories) (s : Step) (o : Outcome) : Type 0 where
-  pub by : Entering s
+  pub by : Entering m s
   pub eip : o .stepped .machine .registers .eip ≡ 0
   pub eflags : o .stepped .machine .registers .eflags ≡ 2
   pub dr7 : o .stepped .machine .registers .dr7 ≡ 0x400
@@ -82,12 +82,36 @@ pub record Entry (m : Machine) (x : Memories) (s : Step) (o : Outcome) : Type 0 
   pub main : o .memory .main ≡ x .main
   pub management : OnlyHeader (x .management) (o .memory .management) (headerPlace (settingsOf m)) (headerBytes (recorded m by))
 
--- whatever answers 11 is such an entry
+-- whatever answers 11 is such an entry, so nothing else enters
 abbrev pub EntersAsStated : Type 0
 EntersAsStated = (m : Machine) (x : Memories) (s : Step) → answerTo m x s ≡ 11 → Entry m x s (stepped m x s)
 
--- RSM reads the header back into the registers that it came from: m is before entry, e is after it, and o is after RSM
-pub record Resume (m : Machine) (s : Step) (by : Entering s) (e o : Outcome) : Type 0 where
+-- the one way to resume: a valid RSM
+pub data Resuming (m : Machine) : Step → Type 0 where
+  by-rsm : {op modrm a next : ℕ} → operationOf op modrm ≡ Rsm → valid m Rsm ≡ true → Resuming m (Opcode op modrm a next)
+
+-- It resumes, unless the step is refused.
+abbrev pub ResumesWhereDue : Type 0
+ResumesWhereDue =
+    (m : Machine) (x : Memories) (s : Step) → firstRefusal (m .halted) x s ≡ Allowed → Resuming m s → answerTo m x s ≡ 12
+
+-- it loads the registers from the header that management memory holds, and leaves the mode: m and x are before the step s, and o is after it
+pub record Resumption (m : Machine) (x : Memories) (s : Step) (o : Outcome) : Type 0 where
+  pub by : Resuming m s
+  pub registers : o .stepped .machine .registers ≡ resumed (x .management) (headerPlace (settingsOf m))
+  pub halted : o .stepped .machine .halted ≡ false
+  pub inside : o .stepped .machine .inside ≡ false
+  pub latched : o .stepped .machine .latched ≡ m .latched
+  pub segments : o .stepped .machine .segments ≡ m .segments
+  pub config : o .stepped .machine .config ≡ m .config
+  pub memory : o .memory ≡ x
+
+-- whatever answers 12 is such a resumption
+abbrev pub ResumesAsStated : Type 0
+ResumesAsStated = (m : Machine) (x : Memories) (s : Step) → answerTo m x s ≡ 12 → Resumption m x s (stepped m x s)
+
+-- RSM right after entry: it loads the registers that were saved, with next IP for EIP. m is before entry, e is after it, and o is after RSM.
+pub record Resume (m : Machine) (s : Step) (by : Entering m s) (e o : Outcome) : Type 0 where
   pub answer : numberOf (o .stepped .answer) ≡ 12
   pub registers : o .stepped .machine .registers ≡ withEip (m .registers) (recorded m by .next)
   pub halted : o .stepped .machine .halted ≡ false
@@ -97,9 +121,9 @@ pub record Resume (m : Machine) (s : Step) (by : Entering s) (e o : Outcome) : T
   pub config : o .stepped .machine .config ≡ m .config
   pub memory : o .memory ≡ e .memory
 
--- RSM right after entry, where every number of the machine and of the step has the width of its type
+-- that holds where every number of the machine and of the step has the width of its type
 abbrev pub ResumesAsEntered : Type 0
 ResumesAsEntered =
     (m : Machine) (x : Memories) (s : Step) (modrm a next : ℕ) → MachineFits m → StepFits s → (entered : answerTo m x s ≡ 11)
     → let e = stepped m x s in
-    (by : Entering s) → Resume m s by e (stepped (e .stepped .machine) (e .memory) (Opcode 0xaa modrm a next))
+    (by : Entering m s) → Resume m s by e (stepped (e .stepped .machine) (e .memory) (Opcode 0xaa modrm a next))

@@ -1,14 +1,15 @@
--- How tight the statements are (01). Were a hypothesis to ask for more, or a claim to say less, every theorem would stay proved, and one of
--- these laws would fail.
-use Prim.Native.Nat.{ℕ, _/_, _%_}
+-- How tight the statements are (01): for each hypothesis and each definition that stands only in a claim, a law that fails where it asks for
+-- more or says less. `Entering` and `Resuming` need none here, as the theorems go both ways between them and the answers 11 and 12; the
+-- widths have theirs in steps and machine.
+use Prim.Native.Nat.{ℕ, _/_, _%_, _<_}
 use mathlib.Core.Path.{_≡_}
 use mathlib.Core.Bool.{false}
 use mathlib.Core.List.{List, [], _∷_, _++_}
-use lib.ListN.{length}
+use lib.ListN.{length, getD}
 use lib.Seq.{sets}
 use Rattle.memory.specs.Memory.{Memories, memories}
 use Rattle.steps.specs.declared.Answer.{Answer}
-use Rattle.steps.specs.declared.Answer.the-variants.{Resumed}
+use Rattle.steps.specs.declared.Answer.the-variants.{Done, Resumed}
 use Rattle.steps.specs.declared.Step.{Step}
 use Rattle.steps.specs.declared.Step.the-variants.{Reset}
 use Rattle.steps.specs.Answers.{numberOf}
@@ -18,10 +19,10 @@ use Rattle.header.specs.Header.{headerBytes, withEip}
 use Rattle.machine.specs.declared.Machine.{Machine}
 use Rattle.machine.specs.Machines.{machine}
 use Rattle.machine.specs.Outcomes.{Outcome, gives, ends}
-use Rattle.machine.specs.Service.{settingsOf, entry}
+use Rattle.machine.specs.Service.{settingsOf, entry, resume}
 use Rattle.runs.specs.Runs.{Run, run, answersOf}
-use Rattle.isolation.specs.Service.{OnlyHeader, Entering, recorded, latchAfter, Entry, Resume}
-use Rattle.isolation.specs.Isolation.{Start, NoReset, UpToEntry, lastNumber, Agree}
+use Rattle.isolation.specs.Service.{OnlyHeader, Entering, recorded, latchAfter, Entry, Resumption, Resume}
+use Rattle.isolation.specs.Isolation.{Start, NoReset, UpToEntry, lastNumber, Agree, throughEntry}
 
 -- ---- the hypotheses ask for no more
 
@@ -37,11 +38,22 @@ NoResetAsked = NoReset [] × ((s : Step) (ss : List Step) → (s ≡ Reset → �
 -- the first entry may be the last step
 abbrev pub UpToEntryAsked : Type 0
 UpToEntryAsked =
-    ((a : Answer) → UpToEntry (a ∷ []))
+    UpToEntry []
+    × ((a : Answer) → UpToEntry (a ∷ []))
     × ((a b : Answer) (bs : List Answer) → (numberOf a ≡ 11 → ⊥) → UpToEntry (b ∷ bs) → UpToEntry (a ∷ b ∷ bs))
 
 abbrev pub LastIsLast : Type 0
 LastIsLast = (bs : List Answer) (a : Answer) → lastNumber (bs ++ (a ∷ [])) ≡ numberOf a
+
+-- no answer is "entered"
+abbrev pub NoEntry : List Answer → Type 0
+NoEntry answers = (i : ℕ) → i < length answers → numberOf (getD answers i Done) ≡ 11 → ⊥
+
+-- the answers compared are all of them where none is "entered", and else those before the first such and that one
+abbrev pub ThroughEntryAsked : Type 0
+ThroughEntryAsked =
+    ((bs cs : List Answer) (a : Answer) → NoEntry bs → numberOf a ≡ 11 → throughEntry (bs ++ (a ∷ cs)) ≡ bs ++ (a ∷ []))
+    × ((bs : List Answer) → NoEntry bs → throughEntry bs ≡ bs)
 
 -- the whole list is one of the beginnings that the claim speaks of
 abbrev pub WholeList : Type 0
@@ -63,9 +75,15 @@ EntryDetermines =
     → o ≡ entry m x (recorded m (e .by)) (latchAfter m (e .by))
 
 -- and after RSM
+abbrev pub ResumptionDetermines : Type 0
+ResumptionDetermines =
+    (m : Machine) (x : Memories) (s : Step) (o : Outcome) → numberOf (o .stepped .answer) ≡ 12 → Resumption m x s o
+    → o ≡ ends (resume m (x .management)) x
+
+-- and after RSM right after entry
 abbrev pub ResumeDetermines : Type 0
 ResumeDetermines =
-    (m : Machine) (s : Step) (by : Entering s) (e o : Outcome) → Resume m s by e o
+    (m : Machine) (s : Step) (by : Entering m s) (e o : Outcome) → Resume m s by e o
     → o
     ≡ ends
     (gives (machine (withEip (m .registers) (recorded m by .next)) (m .segments) false false (e .stepped .machine .latched) (m .config)) Resumed)

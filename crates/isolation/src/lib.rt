@@ -1,8 +1,8 @@
 // Theorems about the step and about lists of steps, and no code: specs/ has their statements, and proofs/ their proofs.
 ghost use Rattle.isolation.specs.Refusals.{RefusedAsCalledFor, RefusalChangesNothing};
-ghost use Rattle.isolation.specs.Service.{SmiEnters, SmintEnters, EntersAsStated, ResumesAsEntered};
+ghost use Rattle.isolation.specs.Service.{EntersWhereDue, EntersAsStated, ResumesWhereDue, ResumesAsStated, ResumesAsEntered};
 ghost use Rattle.isolation.specs.Isolation.{Isolated, SameAnswers};
-ghost use Rattle.isolation.specs.Tightness.{StartAsked, NoResetAsked, UpToEntryAsked, LastIsLast, WholeList, HeaderDetermines, EntryDetermines, ResumeDetermines, AgreementDetermines};
+ghost use Rattle.isolation.specs.Tightness.{StartAsked, NoResetAsked, UpToEntryAsked, LastIsLast, ThroughEntryAsked, WholeList, HeaderDetermines, EntryDetermines, ResumptionDetermines, ResumeDetermines, AgreementDetermines};
 ghost use Rattle.isolation.specs.Examples.{IsolationExample, EntryExamples, RefusalExamples};
 
 // These hold the gate to the theorems, since a function is proved only with all that it ensures.
@@ -13,10 +13,11 @@ fn demand_1()
 {}
 
 fn demand_2()
-    ensures smi { λ r. ⌜ SmiEnters ⌝ }
-    ensures smint { λ r. ⌜ SmintEnters ⌝ }
+    ensures due { λ r. ⌜ EntersWhereDue ⌝ }
     ensures enters { λ r. ⌜ EntersAsStated ⌝ }
-    ensures resumes { λ r. ⌜ ResumesAsEntered ⌝ }
+    ensures back { λ r. ⌜ ResumesWhereDue ⌝ }
+    ensures resumes { λ r. ⌜ ResumesAsStated ⌝ }
+    ensures returns { λ r. ⌜ ResumesAsEntered ⌝ }
     ensures examples { λ r. ⌜ EntryExamples ⌝ }
 {}
 
@@ -32,12 +33,14 @@ fn hypotheses()
     ensures resets { λ r. ⌜ NoResetAsked ⌝ }
     ensures entry { λ r. ⌜ UpToEntryAsked ⌝ }
     ensures last { λ r. ⌜ LastIsLast ⌝ }
+    ensures through { λ r. ⌜ ThroughEntryAsked ⌝ }
     ensures whole { λ r. ⌜ WholeList ⌝ }
 {}
 
 fn claims()
     ensures header { λ r. ⌜ HeaderDetermines ⌝ }
     ensures entry { λ r. ⌜ EntryDetermines ⌝ }
+    ensures resumption { λ r. ⌜ ResumptionDetermines ⌝ }
     ensures resume { λ r. ⌜ ResumeDetermines ⌝ }
     ensures agreement { λ r. ⌜ AgreementDetermines ⌝ }
 {}

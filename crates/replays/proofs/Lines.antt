@@ -3,16 +3,24 @@ use Prim.Native.Nat.{ℕ}
 use mathlib.Core.Path.{_≡_, refl, sym, ap}
 use mathlib.Core.Bool.{Bool, true, false, cond}
 use mathlib.Core.List.{List, [], _∷_, _++_, append-assoc}
+use native.Mathlib.Omega.{arith}
 use lib.Dec.{eqb}
 use lib.Seq.{take-append-seam}
+use Rattle.fields.specs.Fields.{numberBy}
 use Rattle.steps.specs.declared.Answer.{Answer}
+use Rattle.steps.specs.declared.Step.{Step}
+use Rattle.steps.specs.declared.Step.the-variants.{Wake}
+use Rattle.steps.specs.Steps.{kindOf}
 use Rattle.steps.specs.Answers.{numberOf, valueOf}
+use Rattle.trace.specs.Trace.{foundAt, recordOf, recordBy}
 use Rattle.lines.specs.declared.Reason.{Reason}
 use Rattle.lines.specs.Lines.{lineOf, linesOf, wordOf, textOf}
 use Rattle.isolation.specs.Isolation.{throughEntry}
 use Rattle.isolation.proofs.Isolation.{same-answers}
-use Rattle.player.specs.Player.{scriptOf}
-use Rattle.replays.specs.Replays.{Begins, SameLines}
+use Rattle.isolation.proofs.Tightness.{no-reset-asked}
+use Rattle.isolation.proofs.Examples.{isolation-example}
+use Rattle.player.specs.Player.{scriptFrom, scriptOf}
+use Rattle.replays.specs.Replays.{Begins, SameLines, oneWake, LinesExample}
 
 -- what is printed after the first entry
 after : List Answer → List ℕ
@@ -20,7 +28,7 @@ after [] = []
 after (a ∷ rest) = cond (eqb (numberOf a) 11) (linesOf rest) (after rest)
 
 split-at : (a : Answer) (rest : List Answer) (b : Bool) → linesOf rest ≡ linesOf (throughEntry rest) ++ after rest
-    → linesOf (a ∷ rest) ≡ linesOf (a ∷ cond b [] (throughEntry rest)) ++ cond b (linesOf rest) (after rest)
+    → linesOf (a ∷ rest) ≡ linesOf (cond b (a ∷ []) (a ∷ throughEntry rest)) ++ cond b (linesOf rest) (after rest)
 unfolding linesOf
 split-at a rest true e = sym (append-assoc (lineOf (numberOf a) (valueOf a)) [] (linesOf rest))
 split-at a rest false e = rw (e, append-assoc)
@@ -38,3 +46,19 @@ pub same-lines : SameLines
 same-lines m main g h trace from equal none =
     let t = scriptOf trace in
     (ap linesOf (same-answers m main g h (t .steps) from equal none), begins _ (t .reason), begins _ (t .reason))
+
+-- ---- the example
+
+one-wake : scriptOf oneWake .steps ≡ Wake ∷ []
+unfolding scriptFrom foundAt recordOf recordBy numberBy
+one-wake = refl
+
+pub lines-example : LinesExample
+lines-example =
+    let e = isolation-example in
+    record {
+      start = e .start;
+      equal = e .equal;
+      some = rw one-wake;
+      none = rw one-wake (no-reset-asked .1 Wake [] (λ w. let k = ap kindOf w in omega arith) (no-reset-asked .0));
+    }

@@ -1,9 +1,10 @@
 -- What demand 3 says of the player: two replays of one trace, from one machine that is outside the mode with SMI_LOCK set and SMAC clear, over
 -- one main memory and two management memories of one size, print the same lines up to and including the first "entered", if the trace holds
--- no reset.
+-- no reset. The program `replay` starts from reset, where the lock is clear: so the claim is about replays from a machine that is locked
+-- already.
 use Prim.Native.Nat.{ℕ}
 use mathlib.Core.Path.{_≡_}
-use mathlib.Core.List.{List}
+use mathlib.Core.List.{List, [], _∷_}
 use lib.ListN.{length, take}
 use Rattle.memory.specs.Memory.{Memories, memories}
 use Rattle.machine.specs.declared.Machine.{Machine}
@@ -12,6 +13,7 @@ use Rattle.lines.specs.Lines.{linesOf}
 use Rattle.player.specs.Player.{scriptOf, playing}
 use Rattle.player.specs.Output.{replayText}
 use Rattle.isolation.specs.Isolation.{Start, NoReset, throughEntry}
+use Rattle.isolation.specs.Examples.{locked, filled}
 
 -- the lines of a replay up to and including the first "entered", answer 11
 abbrev pub linesThroughEntry : Machine → Memories → List ℕ → List ℕ
@@ -29,3 +31,13 @@ SameLines =
     (linesThroughEntry m x trace ≡ linesThroughEntry m y trace)
     × Begins (replayText m x trace) (linesThroughEntry m x trace)
     × Begins (replayText m y trace) (linesThroughEntry m y trace)
+
+-- an example of what is asked: a trace of one record, a wake, and two management memories that differ
+abbrev pub oneWake : List ℕ
+oneWake = 2 ∷ 0 ∷ 10 ∷ 0 ∷ []
+
+pub record LinesExample : Type 0 where
+  pub start : Start locked
+  pub equal : length (filled 0 .management) ≡ length (filled 1 .management)
+  pub some : length (scriptOf oneWake .steps) ≡ 1
+  pub none : NoReset (scriptOf oneWake .steps)

@@ -1,5 +1,5 @@
 -- The widths of a step's numbers (01, "What the machine holds", "The steps" and "Trace player"). A number of the contracts' language has no
--- bound, so a theorem that needs one asks for these. Every step of the code's own types has them: the function `widths` holds the gate to that.
+-- bound, so a theorem that needs one asks for these. Every step of the code's own types has them: the function `widths` ensures it.
 use Prim.Native.Nat.{_<_, _^_}
 use Rattle.steps.specs.declared.Transfer.{Transfer}
 use Rattle.steps.specs.declared.Interruption.{Interruption}

@@ -1,10 +1,10 @@
-use Rattle.isolation.proofs.Service.{smi-enters, smint-enters, enters-as-stated, resumes-as-entered}
+use Rattle.isolation.proofs.Service.{enters-where-due, enters-as-stated, resumes-where-due, resumes-as-stated, resumes-as-entered}
 use Rattle.isolation.proofs.Examples.{entry-examples}
 use Rattle.isolation.proofs.demand_2.Statement.{statement}
 use Rattle.isolation.proofs.demand_2.Tie as tie
 
 returns : tie.Need-returns
-returns c = (smi-enters, (smint-enters, (enters-as-stated, (resumes-as-entered, entry-examples))))
+returns c = (enters-where-due, (enters-as-stated, (resumes-where-due, (resumes-as-stated, (resumes-as-entered, entry-examples)))))
 
 pub demand-2-spec : {M : Type 1} → statement M
 demand-2-spec = tie.close (tie.spec returns)
