@@ -15,7 +15,7 @@ use Rattle.steps.specs.Answers.{numberOf, refusal}
 use Rattle.refusals.specs.declared.Verdict.{Verdict}
 use Rattle.refusals.specs.Refusals.{wrongSizes, malformedOn, programWhileHalted, firstRefusal}
 use Rattle.refusals.proofs.Laws.{Taken}
-use Rattle.config.specs.Settings.{useSmi, regionIn, enabled}
+use Rattle.config.specs.Settings.{useSmi, regionIn, enabled, opcodesAllowed}
 use Rattle.opcodes.specs.declared.Operation.{Operation}
 use Rattle.opcodes.specs.declared.Operation.the-variants.{Save, Restore, Smint, Rsm, Undefined}
 use Rattle.opcodes.specs.Decode.{operationOf}
@@ -57,7 +57,7 @@ taken-where m asserted e =
 module _ (m : Machine) (x : Memories) where
   operated-does : (op modrm a next : ℕ) (o : Operation) → operationOf op modrm ≡ o → wrongSizes x ≡ false → valid m o ≡ true
       → Does m x (Opcode op modrm a next) (operated m x o a next) (cond (hasOperand o && not (there (window m) x a operandLength)) 5 0)
-  unfolding operated saved restored resume valid permitted
+  unfolding operated saved restored resume valid permitted opcodesAllowed
   operated-does op modrm a next (Save name) d z e =
       across (Does m x (Opcode op modrm a next)) (there (window m) x a operandLength)
       (λ k. Does.neither _ (plain refl refl refl)) (λ k. Does.refuses Absent refl)
@@ -65,9 +65,8 @@ module _ (m : Machine) (x : Memories) where
       across (λ (r : Stepped) (n : ℕ). Does m x (Opcode op modrm a next) (ends r x) n) (there (window m) x a operandLength)
       (λ k. Does.neither _ (plain refl refl refl)) (λ k. Does.refuses Absent refl)
   operated-does op modrm a next Smint d z e =
-      let p = and-eq-true-iff _ _ .0 e .0 in
-      let q = and-eq-true-iff _ _ .0 (and-eq-true-iff _ _ .0 p .0) .0 in
-      let r = and-eq-true-iff _ _ .0 q in
+      let p = and-eq-true-iff _ _ .0 (and-eq-true-iff _ _ .0 e .0) .1 in
+      let r = and-eq-true-iff _ _ .0 (and-eq-true-iff _ _ .0 p .0) in
       Does.enters (by-smint d e) (record { sizes = z; on = r .0; usable = r .1 })
   operated-does op modrm a next Rsm d z e = Does.resumes (by-rsm d e)
   operated-does op modrm a next Undefined d z e = unlike e (and-false (permitted m))

@@ -18,13 +18,13 @@ use Rattle.steps.specs.Steps.{isWidth, kindOf}
 use Rattle.refusals.specs.declared.Verdict.the-variants.{Allowed}
 use Rattle.refusals.specs.Refusals.{wrongSizes, malformedOn, programWhileHalted, firstRefusal}
 use Rattle.refusals.proofs.Laws.{taken-allowed}
-use Rattle.config.specs.Settings.{windowOf, enabled}
+use Rattle.config.specs.Settings.{windowOf, enabled, opcodesAllowed}
 use Rattle.opcodes.specs.Decode.{operationOf}
 use Rattle.machine.specs.declared.Machine.{Machine}
 use Rattle.machine.specs.Machines.{withHalted, resetSegments}
 use Rattle.machine.specs.Outcomes.{ends}
 use Rattle.machine.specs.Steps.{permitted, valid, haltStep, performed, stepped}
-use Rattle.machine.specs.Widths.{SegmentFits, MachineFits}
+use Rattle.isolation.specs.Widths.{SegmentFits, MachineFits}
 use Rattle.runs.specs.Runs.{run, answersOf}
 use Rattle.isolation.specs.Refusals.{calledFor}
 use Rattle.isolation.specs.Service.{answerTo, Entering}
@@ -46,7 +46,7 @@ unfolding enabled usable regionOf sizeOf
 due-at-boundary halted = at-boundary refl refl refl
 
 due-by-smint : Entering underSmac smint
-unfolding operationOf valid permitted usable regionOf sizeOf
+unfolding operationOf valid permitted opcodesAllowed usable regionOf sizeOf
 due-by-smint = by-smint refl refl
 
 module _ (g : List ℕ) (long : length g ≡ 65536) where
@@ -65,7 +65,7 @@ module _ (g : List ℕ) (long : length g ≡ 65536) where
       × (calledFor (withHalted locked true) x (PortRead 0x22) ≡ 3)
       × (calledFor locked x (Opcode 0xaa 0 0 0) ≡ 4)
       × (calledFor locked x (Read 4 0) ≡ 5)
-  unfolding calledFor malformedOn programWhileHalted operationOf valid permitted windowOf within usable regionOf sizeOf absent allThere isWidth
+  unfolding calledFor malformedOn programWhileHalted operationOf valid permitted opcodesAllowed windowOf within usable regionOf sizeOf absent allThere isWidth
   called-for = (rw whole, rw whole, rw whole, rw whole, rw whole)
 
   boundary-allowed : (halted : Bool) → firstRefusal halted x entering ≡ Allowed

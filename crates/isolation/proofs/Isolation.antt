@@ -22,7 +22,7 @@ use Rattle.events.specs.Events.{Event, event}
 use Rattle.refusals.specs.Refusals.{wrongSizes, firstRefusal}
 use Rattle.refusals.proofs.Laws.{by-verdict, sizes}
 use Rattle.config.specs.declared.Accessed.{Accessed}
-use Rattle.config.specs.Settings.{smac, smiLock, enabled, headerPlace, SameLocked}
+use Rattle.config.specs.Settings.{smac, smiLock, enabled, headerPlace, SameLocked, opcodesAllowed}
 use Rattle.config.proofs.Lock.{locked-refl, locked-trans, same-smac, same-lock, same-place, window-shut, enabled-usable, place-fits}
 use Rattle.header.specs.Header.{headed, headerBytes}
 use Rattle.header.specs.declared.Saved.{Saved}
@@ -121,8 +121,8 @@ module _ (start : Machine) (from : Start start) (g h : List ℕ) (main : List �
 
     -- outside the mode with SMAC 0 no operation is valid
     not-valid : (o : Operation) → valid m o ≡ false
-    unfolding valid permitted
-    not-valid o = rw (held .outside, closed, and-false)
+    unfolding valid permitted opcodesAllowed
+    not-valid o = simp (held .outside, closed, and-false)
 
     opcode-one : (op modrm a next : ℕ) → P (opcodeStep m (memories main g) op modrm a next) (opcodeStep m (memories main h) op modrm a next)
     unfolding opcodeStep

@@ -16,7 +16,7 @@ use Rattle.steps.specs.Widths.{TransferFits, InterruptionFits, StepFits}
 use Rattle.refusals.specs.declared.Verdict.the-variants.{Allowed}
 use Rattle.refusals.specs.Refusals.{wrongSizes, malformedOn, programWhileHalted, firstRefusal}
 use Rattle.refusals.proofs.Laws.{taken-allowed, by-verdict}
-use Rattle.config.specs.Settings.{headerPlace}
+use Rattle.config.specs.Settings.{headerPlace, opcodesAllowed}
 use Rattle.header.specs.Header.{sizeBits, portSize, cut, trapOf, headerBytes, headed}
 use Rattle.header.specs.Entry.{entryRegisters}
 use Rattle.header.specs.ReadBack.{SavedFits}
@@ -26,7 +26,7 @@ use Rattle.machine.specs.declared.Machine.{Machine}
 use Rattle.machine.specs.Outcomes.{Outcome, ends}
 use Rattle.machine.specs.Service.{settingsOf, enteredMachine, entry, taken, boundaryStep, resume}
 use Rattle.machine.specs.Steps.{permitted, valid, operated, opcodeStep, performed, decided, stepped}
-use Rattle.machine.specs.Widths.{MachineFits}
+use Rattle.isolation.specs.Widths.{MachineFits}
 use Rattle.isolation.specs.Service.{answerTo, Entering, recorded, latchAfter, EntersWhereDue, EntersAsStated, ResumesWhereDue, ResumesAsStated, Resume, ResumesAsEntered}
 use Rattle.isolation.specs.Service.Entering.{at-boundary, by-smint}
 use Rattle.isolation.specs.Service.Resuming.{by-rsm}
@@ -169,7 +169,7 @@ module _ (m : Machine) (x : Memories) (s : Step) (by by′ : Entering m s) (able
   sizes-kept = rw (length-sets (x .management) (headerPlace (settingsOf m)) (headerBytes (recorded m by))) (able .sizes)
 
   may-resume : permitted (inside .stepped .machine) ≡ true
-  unfolding permitted entry enteredMachine entryRegisters
+  unfolding permitted opcodesAllowed entry enteredMachine entryRegisters
   may-resume = rw (able .on, able .usable)
 
   resume-stated : Resume m s by′ inside (stepped (inside .stepped .machine) (inside .memory) (Opcode 0xaa modrm a next))

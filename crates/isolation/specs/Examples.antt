@@ -15,7 +15,7 @@ use Rattle.refusals.specs.Refusals.{firstRefusal}
 use Rattle.machine.specs.declared.Machine.{Machine}
 use Rattle.machine.specs.Machines.{machine, resetRegisters, resetSegments}
 use Rattle.machine.specs.Steps.{stepped}
-use Rattle.machine.specs.Widths.{MachineFits}
+use Rattle.isolation.specs.Widths.{MachineFits}
 use Rattle.runs.specs.Runs.{run, answersOf}
 use Rattle.isolation.specs.Refusals.{calledFor}
 use Rattle.isolation.specs.Service.{answerTo, Entering, Resuming}

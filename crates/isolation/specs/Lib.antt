@@ -1,3 +1,4 @@
+pub mod Widths
 pub mod Refusals
 pub mod Service
 pub mod Isolation

@@ -25,7 +25,7 @@ use Rattle.machine.specs.declared.Machine.{Machine}
 use Rattle.machine.specs.Outcomes.{Outcome}
 use Rattle.machine.specs.Service.{settingsOf, savedAtBoundary, savedBySmint}
 use Rattle.machine.specs.Steps.{valid, stepped}
-use Rattle.machine.specs.Widths.{MachineFits}
+use Rattle.isolation.specs.Widths.{MachineFits}
 
 -- the number of a step's answer
 abbrev pub answerTo : Machine → Memories → Step → ℕ

@@ -1,4 +1,6 @@
 // Theorems about the step and about lists of steps, and no code: specs/ has their statements, and proofs/ their proofs.
+use machine::Machine;
+ghost use Rattle.isolation.specs.Widths.{MachineFits};
 ghost use Rattle.isolation.specs.Refusals.{RefusedAsCalledFor, RefusalChangesNothing};
 ghost use Rattle.isolation.specs.Service.{EntersWhereDue, EntersAsStated, ResumesWhereDue, ResumesAsStated, ResumesAsEntered};
 ghost use Rattle.isolation.specs.Isolation.{Isolated, SameAnswers};
@@ -43,4 +45,9 @@ fn claims()
     ensures resumption { λ r. ⌜ ResumptionDetermines ⌝ }
     ensures resume { λ r. ⌜ ResumeDetermines ⌝ }
     ensures agreement { λ r. ⌜ AgreementDetermines ⌝ }
+{}
+
+// The widths that theorems ask of a machine: every value of the type has them.
+fn widths(m: Machine)
+    ensures { λ r. ⌜ MachineFits m ⌝ }
 {}

@@ -2,4 +2,3 @@ pub mod Machines
 pub mod Outcomes
 pub mod Service
 pub mod Steps
-pub mod Widths

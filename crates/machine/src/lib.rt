@@ -10,7 +10,6 @@ ghost use Rattle.opcodes.specs.declared.Operation.the-variants.{Undefined};
 ghost use Rattle.machine.specs.Machines.{withRegisters, withSegments, segmentIn, withSegment, segment, resetMachine};
 ghost use Rattle.machine.specs.Outcomes.{gives, ends};
 ghost use Rattle.machine.specs.Service.{enteredMachine, entry, entryAtBoundary, entryBySmint, taken, passed, boundaryStep, resume};
-ghost use Rattle.machine.specs.Widths.{MachineFits};
 ghost use Rattle.machine.specs.Steps.{window, resetStep, registersStep, readStep, writeStep, portStep, portReadStep, portWriteStep, haltStep, wakeStep, permitted, valid, advanced, saved, restored, opcodeStep, performed, stepped};
 use config::Accessed;
 use config::Config;
@@ -675,8 +674,3 @@ fn either(b: bool, x: u32, y: u32) -> u32
 {
     if b { x } else { y }
 }
-
-// No code of the model: it holds the gate to the widths that theorems ask of a machine.
-fn widths(m: Machine)
-    ensures { λ r. ⌜ MachineFits m ⌝ }
-{}

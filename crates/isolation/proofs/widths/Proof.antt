@@ -13,11 +13,11 @@ use Rattle.header.specs.declared.Registers.{Registers}
 use Rattle.header.specs.ReadBack.{RegistersFit}
 use Rattle.header.proofs.Registers as registers
 use Prim.Native.Nat.{_<_, _^_}
 use Rattle.machine.specs.declared.Segments.{Segments}
-use Rattle.machine.specs.Widths.{SegmentFits, SegmentsFit}
+use Rattle.isolation.specs.Widths.{SegmentFits, SegmentsFit}
 use Rattle.machine.proofs.Segments as segments
-use Rattle.machine.proofs.widths.Statement.{statement}
-use Rattle.machine.proofs.widths.Tie as tie
+use Rattle.isolation.proofs.widths.Statement.{statement}
+use Rattle.isolation.proofs.widths.Tie as tie
 
 registers-fit : (r : Registers) (vs : List Val) → Is (row registers.the-type) r vs → RegistersFit r
 registers-fit r vs h =
