@@ -15,10 +15,11 @@ use Rattle.steps.specs.Answers.{numberOf, refusal}
 use Rattle.refusals.specs.declared.Verdict.{Verdict}
 use Rattle.refusals.specs.Refusals.{wrongSizes, malformedOn, programWhileHalted, firstRefusal}
 use Rattle.refusals.proofs.Laws.{Taken}
-use Rattle.config.specs.Settings.{useSmi, regionIn, enabled, opcodesAllowed}
+use Rattle.config.specs.Settings.{useSmi, regionIn, enabled, opcodesAllowed, smac}
 use Rattle.opcodes.specs.declared.Operation.{Operation}
 use Rattle.opcodes.specs.declared.Operation.the-variants.{Save, Restore, Smint, Rsm, Undefined}
 use Rattle.opcodes.specs.Decode.{operationOf}
+use Rattle.header.specs.Header.{levelNumber}
 use Rattle.machine.specs.declared.Machine.{Machine}
 use Rattle.machine.specs.declared.Stepped.{Stepped}
 use Rattle.machine.specs.Outcomes.{Outcome, gives, ends, refused}
@@ -65,8 +66,11 @@ module _ (m : Machine) (x : Memories) where
       across (λ (r : Stepped) (n : ℕ). Does m x (Opcode op modrm a next) (ends r x) n) (there (window m) x a operandLength)
       (λ k. Does.neither _ (plain refl refl refl)) (λ k. Does.refuses Absent refl)
   operated-does op modrm a next Smint d z e =
-      let p = and-eq-true-iff _ _ .0 (and-eq-true-iff _ _ .0 e .0) .1 in
-      let r = and-eq-true-iff _ _ .0 (and-eq-true-iff _ _ .0 p .0) in
+      let t = settingsOf m in
+      let may = and-eq-true-iff (permitted m) (not (m .inside)) .0 e .0 in
+      let p = and-eq-true-iff (eqb (levelNumber (m .registers .level)) 0) (opcodesAllowed t (m .inside)) .0 may .1 in
+      let q = and-eq-true-iff (useSmi t && usable (regionIn t)) (m .inside || smac t) .0 p .0 in
+      let r = and-eq-true-iff (useSmi t) (usable (regionIn t)) .0 q in
       Does.enters (by-smint d e) (record { sizes = z; on = r .0; usable = r .1 })
   operated-does op modrm a next Rsm d z e = Does.resumes (by-rsm d e)
   operated-does op modrm a next Undefined d z e = unlike e (and-false (permitted m))
