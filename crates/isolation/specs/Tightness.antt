@@ -1,6 +1,6 @@
 -- How tight the statements are (01): for each hypothesis and each definition that stands only in a claim, a law that fails where it asks for
 -- more or says less. `Entering` and `Resuming` need none here, as the theorems go both ways between them and the answers 11 and 12; the
--- widths have theirs in steps and machine.
+-- widths have theirs in the functions `widths` of steps and of this crate.
 use Prim.Native.Nat.{ℕ, _/_, _%_, _<_}
 use mathlib.Core.Path.{_≡_}
 use mathlib.Core.Bool.{false}

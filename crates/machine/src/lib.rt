@@ -51,6 +51,16 @@ pub struct Stepped {
     pub answer: Answer,
 }
 
+// The same segment, put together anew.
+fn fresh(s: Segment) -> Segment
+    ensures { λ r. ⌜ r ≡ s ⌝ }
+{
+    Segment {
+        selector: s.selector,
+        descriptor: s.descriptor,
+    }
+}
+
 fn segment_of(selector: u16, descriptor: u64) -> Segment
     ensures { λ r. ⌜ r ≡ segment selector descriptor ⌝ }
 {
@@ -116,63 +126,23 @@ impl Machine {
         let s = self.segments;
         let level = r.level;
         let config = self.config;
-        let cs = r.cs;
-        let ds = s.ds;
-        let es = s.es;
-        let fs = s.fs;
-        let gs = s.gs;
-        let ss = s.ss;
-        let ldtr = s.ldtr;
-        let tr = s.tr;
-        let cs = Segment {
-            selector: cs.selector,
-            descriptor: cs.descriptor,
-        };
-        let ds = Segment {
-            selector: ds.selector,
-            descriptor: ds.descriptor,
-        };
-        let es = Segment {
-            selector: es.selector,
-            descriptor: es.descriptor,
-        };
-        let fs = Segment {
-            selector: fs.selector,
-            descriptor: fs.descriptor,
-        };
-        let gs = Segment {
-            selector: gs.selector,
-            descriptor: gs.descriptor,
-        };
-        let ss = Segment {
-            selector: ss.selector,
-            descriptor: ss.descriptor,
-        };
-        let ldtr = Segment {
-            selector: ldtr.selector,
-            descriptor: ldtr.descriptor,
-        };
-        let tr = Segment {
-            selector: tr.selector,
-            descriptor: tr.descriptor,
-        };
         let registers = Registers {
             eip: r.eip,
             eflags: r.eflags,
             cr0: r.cr0,
             dr7: r.dr7,
-            cs: cs,
+            cs: fresh(r.cs),
             level: level,
             writable: r.writable,
         };
         let segments = Segments {
-            ds: ds,
-            es: es,
-            fs: fs,
-            gs: gs,
-            ss: ss,
-            ldtr: ldtr,
-            tr: tr,
+            ds: fresh(s.ds),
+            es: fresh(s.es),
+            fs: fresh(s.fs),
+            gs: fresh(s.gs),
+            ss: fresh(s.ss),
+            ldtr: fresh(s.ldtr),
+            tr: fresh(s.tr),
         };
         Machine {
             registers: registers,
