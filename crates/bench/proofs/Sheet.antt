@@ -31,7 +31,8 @@ use Rattle.header.specs.declared.Registers.{Registers}
 use Rattle.header.specs.Header.{levelNumber, sizeBits, cut, headerBytes}
 use Rattle.header.specs.Entry.{entryCr0, entryCs}
 use Rattle.machine.specs.declared.Machine.{Machine}
-use Rattle.machine.specs.Machines.{machine, segment, resetSegments}
+use Rattle.memory.specs.Memory.{segment}
+use Rattle.machine.specs.Machines.{machine, resetSegments}
 use Rattle.machine.specs.Outcomes.{ends}
 use Rattle.machine.specs.Service.{settingsOf, savedAtBoundary}
 use Rattle.machine.specs.Steps.{portStep, performed, stepped}

@@ -4,6 +4,7 @@ use mathlib.Core.Bool.{Bool, true, false}
 use mathlib.Core.List.{[], _∷_}
 use Rattle.fields.specs.Fields.{numberBy, number}
 use Rattle.memory.specs.declared.Segment.{Segment}
+use Rattle.memory.specs.Memory.{segment}
 use Rattle.config.specs.declared.Config.{Config}
 use Rattle.header.specs.declared.Registers.{Registers}
 use Rattle.header.specs.declared.Level.the-variants.{Zero}
@@ -59,9 +60,6 @@ withSegment m Fs x = let s = m .segments in withSegments m (segments (s .ds) (s 
 withSegment m Gs x = let s = m .segments in withSegments m (segments (s .ds) (s .es) (s .fs) x (s .ss) (s .ldtr) (s .tr))
 withSegment m Ldtr x = let s = m .segments in withSegments m (segments (s .ds) (s .es) (s .fs) (s .gs) (s .ss) x (s .tr))
 withSegment m Tr x = let s = m .segments in withSegments m (segments (s .ds) (s .es) (s .fs) (s .gs) (s .ss) (s .ldtr) x)
-
-abbrev pub segment : ℕ → ℕ → Segment
-segment selector descriptor = record { selector = selector; descriptor = descriptor }
 
 -- the registers after a reset
 abbrev pub resetRegisters : Registers

@@ -3,7 +3,7 @@ use Prim.Native.Nat.{ℕ}
 use mathlib.Core.Bool.{Bool, true, false, cond, _&&_}
 use lib.Dec.{eqb}
 use Rattle.region.specs.declared.Region.{Region}
-use Rattle.memory.specs.Memory.{Memories, there, operandLength, segmentAt, storeSegment, reads, writes}
+use Rattle.memory.specs.Memory.{segment, Memories, there, operandLength, segmentAt, storeSegment, reads, writes}
 use Rattle.refusals.specs.declared.Verdict.{Verdict}
 use Rattle.refusals.specs.declared.Verdict.the-variants.{Refused, Allowed}
 use Rattle.refusals.specs.Refusals.{firstRefusal}
@@ -20,7 +20,7 @@ use Rattle.opcodes.specs.declared.Operation.the-variants.{Save, Restore, Smint,
 use Rattle.opcodes.specs.Decode.{operationOf, allowed}
 use Rattle.machine.specs.declared.Machine.{Machine}
 use Rattle.machine.specs.declared.Stepped.{Stepped}
-use Rattle.machine.specs.Machines.{withRegisters, withHalted, withConfig, segmentIn, withSegment, segment, resetMachine}
+use Rattle.machine.specs.Machines.{withRegisters, withHalted, withConfig, segmentIn, withSegment, resetMachine}
 use Rattle.machine.specs.Outcomes.{Outcome, gives, ends, refused}
 use Rattle.machine.specs.Service.{settingsOf, entryBySmint, boundaryStep, resume}
 

@@ -1,5 +1,5 @@
 ghost use mathlib.Core.Path.{_≡_};
-ghost use mathlib.Core.Bool.{true, false, cond, _||_};
+ghost use mathlib.Core.Bool.{true, false, cond};
 ghost use mathlib.Core.List.{List};
 ghost use Prim.Native.Nat.{ℕ};
 ghost use lib.Dec.{eqb};
@@ -7,7 +7,7 @@ ghost use Rattle.memory.specs.Memory.{memories};
 ghost use Rattle.steps.specs.Steps.{isWidth, malformed};
 ghost use Rattle.opcodes.specs.Decode.{operationOf};
 ghost use Rattle.opcodes.specs.declared.Operation.the-variants.{Undefined};
-ghost use Rattle.machine.specs.Machines.{withRegisters, withSegments, segmentIn, withSegment, segment, resetMachine};
+ghost use Rattle.machine.specs.Machines.{withRegisters, withSegments, segmentIn, withSegment, resetMachine};
 ghost use Rattle.machine.specs.Outcomes.{gives, ends};
 ghost use Rattle.machine.specs.Service.{enteredMachine, entry, entryAtBoundary, entryBySmint, taken, passed, boundaryStep, resume};
 ghost use Rattle.machine.specs.Steps.{window, resetStep, registersStep, readStep, writeStep, portStep, portReadStep, portWriteStep, haltStep, wakeStep, permitted, valid, advanced, saved, restored, opcodeStep, performed, stepped};
@@ -51,33 +51,14 @@ pub struct Stepped {
     pub answer: Answer,
 }
 
-// The same segment, put together anew.
-fn fresh(s: Segment) -> Segment
-    ensures { λ r. ⌜ r ≡ s ⌝ }
-{
-    Segment {
-        selector: s.selector,
-        descriptor: s.descriptor,
-    }
-}
-
-fn segment_of(selector: u16, descriptor: u64) -> Segment
-    ensures { λ r. ⌜ r ≡ segment selector descriptor ⌝ }
-{
-    Segment {
-        selector: selector,
-        descriptor: descriptor,
-    }
-}
-
 impl Machine {
     // The machine after a reset, from which a program starts.
     pub fn initial() -> Machine
         ensures { λ r. ⌜ r ≡ resetMachine ⌝ }
     {
-        let cs = segment_of(0xF000, 0xFF0093FF0000FFFF);
-        let ordinary = segment_of(0, 0x000093000000FFFF);
-        let none = segment_of(0, 0);
+        let cs = memory::segment_of(0xF000, 0xFF0093FF0000FFFF);
+        let ordinary = memory::segment_of(0, 0x000093000000FFFF);
+        let none = memory::segment_of(0, 0);
         let registers = Registers {
             eip: 0xFFF0,
             eflags: 2,
@@ -131,18 +112,18 @@ impl Machine {
             eflags: r.eflags,
             cr0: r.cr0,
             dr7: r.dr7,
-            cs: fresh(r.cs),
+            cs: memory::fresh(r.cs),
             level: level,
             writable: r.writable,
         };
         let segments = Segments {
-            ds: fresh(s.ds),
-            es: fresh(s.es),
-            fs: fresh(s.fs),
-            gs: fresh(s.gs),
-            ss: fresh(s.ss),
-            ldtr: fresh(s.ldtr),
-            tr: fresh(s.tr),
+            ds: memory::fresh(s.ds),
+            es: memory::fresh(s.es),
+            fs: memory::fresh(s.fs),
+            gs: memory::fresh(s.gs),
+            ss: memory::fresh(s.ss),
+            ldtr: memory::fresh(s.ldtr),
+            tr: memory::fresh(s.tr),
         };
         Machine {
             registers: registers,
@@ -285,7 +266,7 @@ impl Machine {
         let trap = header::trap_of(interruption);
         let saved = Saved {
             registers: registers,
-            current: either(self.halted, registers.eip, current),
+            current: fields::either(self.halted, registers.eip, current),
             next: registers.eip,
             trap: trap,
             smint: false,
@@ -304,7 +285,7 @@ impl Machine {
         let config = self.config;
         let settings = config.settings;
         if settings.enables_smi() {
-            return any(asserted, self.latched);
+            return fields::any(asserted, self.latched);
         }
         false
     }
@@ -465,7 +446,7 @@ impl Machine {
     ) -> Stepped
         ensures { λ r. ⌜ r ≡ registersStep self eip eflags cr0 dr7 selector descriptor level writable ⌝ }
     {
-        let cs = segment_of(selector, descriptor);
+        let cs = memory::segment_of(selector, descriptor);
         let l = header::level_of(level);
         let registers = Registers {
             eip: eip,
@@ -631,16 +612,4 @@ impl Machine {
             Verdict::Allowed => m.perform(main, management, s),
         }
     }
-}
-
-fn any(a: bool, b: bool) -> bool
-    ensures { λ r. ⌜ r ≡ (a || b) ⌝ }
-{
-    if a { true } else { b }
-}
-
-fn either(b: bool, x: u32, y: u32) -> u32
-    ensures { λ r. ⌜ r ≡ cond b x y ⌝ }
-{
-    if b { x } else { y }
 }

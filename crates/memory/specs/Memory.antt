@@ -12,6 +12,9 @@ use Rattle.fields.specs.Fields.{numberBy, bytesOf}
 use Rattle.steps.specs.declared.Answer.{Answer}
 use Rattle.steps.specs.declared.Answer.the-variants.{Done, Value, Absent}
 
+abbrev pub segment : ℕ → ℕ → Segment
+segment selector descriptor = record { selector = selector; descriptor = descriptor }
+
 pub record Memories : Type 0 where
   pub main : List ℕ
   pub management : List ℕ
@@ -69,7 +72,7 @@ abbrev pub operandLength : ℕ
 operandLength = 10
 
 unfoldable pub segmentAt : Region → Memories → ℕ → Segment
-segmentAt w x a = record { selector = load w x (a + 8) 2; descriptor = load w x a 8 }
+segmentAt w x a = segment (load w x (a + 8) 2) (load w x a 8)
 
 unfoldable pub storeSegment : Region → Memories → ℕ → Segment → Memories
 storeSegment w x a s = store w (store w x a 8 (s .descriptor)) (a + 8) 2 (s .selector)

@@ -1,6 +1,6 @@
 ghost use mathlib.Core.Path.{_≡_};
 ghost use Prim.Native.Nat.{_^_, _≤_, _<_, min};
-ghost use Rattle.memory.specs.Memory.{memories, byteAt, storeByte, absent, allThere, load, store, reaches, reads, writes, segmentAt, storeSegment};
+ghost use Rattle.memory.specs.Memory.{segment, memories, byteAt, storeByte, absent, allThere, load, store, reaches, reads, writes, segmentAt, storeSegment};
 ghost use Rattle.memory.specs.Route.{Routed};
 use region::Region;
 use steps::Answer;
@@ -9,6 +9,22 @@ use steps::Answer;
 pub struct Segment {
     pub selector: u16,
     pub descriptor: u64,
+}
+
+pub fn segment_of(selector: u16, descriptor: u64) -> Segment
+    ensures { λ r. ⌜ r ≡ segment selector descriptor ⌝ }
+{
+    Segment {
+        selector: selector,
+        descriptor: descriptor,
+    }
+}
+
+// The same segment, put together anew: so the gap between its fields is not copied.
+pub fn fresh(s: Segment) -> Segment
+    ensures { λ r. ⌜ r ≡ s ⌝ }
+{
+    segment_of(s.selector, s.descriptor)
 }
 
 // The memory that answers all bytes of an access; bytewise where they are to be taken one by one.

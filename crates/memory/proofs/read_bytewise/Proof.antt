@@ -5,7 +5,6 @@ use Rattle.memory.specs.Memory.{reads}
 use borrow.Author.Needs.{needs}
 use Rattle.memory.proofs.read_bytewise.Statement.{statement}
 use Rattle.memory.proofs.read_bytewise.Tie as tie
-use Rattle.memory.proofs.read_bytewise.Reads as reads
 
 all-there-requires : tie.Need-all-there-requires
 all-there-requires c κs = search needs

@@ -3,45 +3,31 @@ use mathlib.Core.Path.{sym, _∙_}
 use borrow.Author.Needs.{needs}
 use Rattle.config.proofs.Settings.allows_opcodes.Statement.{statement}
 use Rattle.config.proofs.Settings.allows_opcodes.Tie as tie
-use Rattle.config.proofs.Settings.allows_opcodes.Reads as reads
-use Rattle.config.proofs.Settings.allows_opcodes.Lts as lts
-use Rattle.config.proofs.Settings.region.Reads as region-reads
-use Rattle.config.proofs.Settings.smac.Reads as smac-reads
-use Rattle.config.proofs.Settings.use_smi.Reads as use-smi-reads
-use Rattle.region.proofs.Region.is_usable.Reads as is-usable-reads
 
--- src/lib.rt:149:12
 use-smi-requires : tie.Need-use-smi-requires
 use-smi-requires c κs = search needs
 
--- src/lib.rt:150:17
 region-requires : tie.Need-region-requires
 region-requires c κs = search needs
 
--- src/lib.rt:151:16
 is-usable-requires : tie.Need-is-usable-requires
 is-usable-requires c κs = search needs
 
--- src/lib.rt:153:21
 returns : tie.Need-returns
 unfolding opcodesAllowed
 returns c = simp (sym (c .before .before .before .before .before .use-smi .ensures), (c .before .before .before .before .if1 .taken), sym (c .before .before .before .region .ensures), sym (c .before .before .is-usable .ensures), (c .before .if2 .taken), (c .if3 .taken))
 
--- src/lib.rt:155:17
 smac-requires : tie.Need-smac-requires
 smac-requires c κs = search needs
 
--- src/lib.rt:155:17
 returns-2 : tie.Need-returns-2
 unfolding opcodesAllowed
 returns-2 c = simp (sym (c .before .before .before .before .before .before .use-smi .ensures), (c .before .before .before .before .before .if1 .taken), sym (c .before .before .before .before .region .ensures), sym (c .before .before .before .is-usable .ensures), (c .before .before .if2 .taken), (c .before .if3 .left)) (c .smac .ensures)
 
--- src/lib.rt:146:5
 returns-3 : tie.Need-returns-3
 unfolding opcodesAllowed
 returns-3 c = simp (sym (c .before .before .before .before .use-smi .ensures), (c .before .before .before .if1 .taken), sym (c .before .before .region .ensures), sym (c .before .is-usable .ensures), (c .if2 .left))
 
--- src/lib.rt:146:5
 returns-4 : tie.Need-returns-4
 unfolding opcodesAllowed
 returns-4 c = simp (sym (c .before .use-smi .ensures), (c .if1 .left))

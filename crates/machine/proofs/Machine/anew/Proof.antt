@@ -1,43 +1,31 @@
 use borrow.Author.Needs.{needs}
 use Rattle.machine.proofs.Machine.anew.Statement.{statement}
 use Rattle.machine.proofs.Machine.anew.Tie as tie
-use Rattle.machine.proofs.Machine.anew.Reads as reads
-use Rattle.machine.proofs.Machine.anew.Lts as lts
-use Rattle.machine.proofs.fresh.Reads as fresh-reads
 
--- src/lib.rt:133:17
 fresh-requires : tie.Need-fresh-requires
 fresh-requires c κs = search needs
 
--- src/lib.rt:138:17
 fresh-requires-2 : tie.Need-fresh-requires-2
 fresh-requires-2 c κs = search needs
 
--- src/lib.rt:139:17
 fresh-requires-3 : tie.Need-fresh-requires-3
 fresh-requires-3 c κs = search needs
 
--- src/lib.rt:140:17
 fresh-requires-4 : tie.Need-fresh-requires-4
 fresh-requires-4 c κs = search needs
 
--- src/lib.rt:141:17
 fresh-requires-5 : tie.Need-fresh-requires-5
 fresh-requires-5 c κs = search needs
 
--- src/lib.rt:142:17
 fresh-requires-6 : tie.Need-fresh-requires-6
 fresh-requires-6 c κs = search needs
 
--- src/lib.rt:143:19
 fresh-requires-7 : tie.Need-fresh-requires-7
 fresh-requires-7 c κs = search needs
 
--- src/lib.rt:144:17
 fresh-requires-8 : tie.Need-fresh-requires-8
 fresh-requires-8 c κs = search needs
 
--- src/lib.rt:121:5
 returns : tie.Need-returns
 returns c = rw ((c .before .before .before .before .before .before .before .fresh .ensures), (c .before .before .before .before .before .before .fresh2 .ensures), (c .before .before .before .before .before .fresh3 .ensures), (c .before .before .before .before .fresh4 .ensures), (c .before .before .before .fresh5 .ensures), (c .before .before .fresh6 .ensures), (c .before .fresh7 .ensures), (c .fresh8 .ensures))
 

@@ -3,30 +3,21 @@ use Rattle.machine.specs.Service.{taken}
 use borrow.Author.Needs.{needs}
 use Rattle.machine.proofs.Machine.is_taken.Statement.{statement}
 use Rattle.machine.proofs.Machine.is_taken.Tie as tie
-use Rattle.machine.proofs.Machine.is_taken.Reads as reads
-use Rattle.machine.proofs.Machine.is_taken.Lts as lts
-use Rattle.config.proofs.Settings.enables_smi.Reads as enables-smi-reads
-use Rattle.machine.proofs.any.Reads as any-reads
 
--- src/lib.rt:317:13
 returns : tie.Need-returns
 unfolding taken
 returns c = rw ((c .if1 .taken))
 
--- src/lib.rt:321:12
 enables-smi-requires : tie.Need-enables-smi-requires
 enables-smi-requires c κs = search needs
 
--- src/lib.rt:322:13
 any-requires : tie.Need-any-requires
 any-requires c κs = search needs
 
--- src/lib.rt:322:13
 returns-2 : tie.Need-returns-2
 unfolding taken
 returns-2 c = rw ((c .before .before .before .before .before .if1 .left), sym (c .before .before .enables-smi .ensures), (c .before .if2 .taken)) (c .any .ensures)
 
--- src/lib.rt:313:5
 returns-3 : tie.Need-returns-3
 unfolding taken
 returns-3 c = rw ((c .before .before .before .before .if1 .left), sym (c .before .enables-smi .ensures), (c .if2 .left))

@@ -3,35 +3,24 @@ use mathlib.Core.Path.{sym, _∙_}
 use borrow.Author.Needs.{needs}
 use Rattle.machine.proofs.Machine.operation.Statement.{statement}
 use Rattle.machine.proofs.Machine.operation.Tie as tie
-use Rattle.machine.proofs.Machine.operation.Reads as reads
-use Rattle.machine.proofs.Machine.operation.Lts as lts
-use Rattle.machine.proofs.Machine.permits.Reads as permits-reads
-use Rattle.opcodes.proofs.Operation.is_allowed.Reads as is-allowed-reads
-use Rattle.opcodes.proofs.decode.Reads as decode-reads
 
--- src/lib.rt:417:13
 decode-requires : tie.Need-decode-requires
 decode-requires c κs = search needs
 
--- src/lib.rt:418:12
 permits-requires : tie.Need-permits-requires
 permits-requires c κs = search needs
 
--- src/lib.rt:419:16
 is-allowed-requires : tie.Need-is-allowed-requires
 is-allowed-requires c κs = search needs
 
--- src/lib.rt:420:17
 returns : tie.Need-returns
 unfolding valid
 returns c = rw (← (c .before .before .before .before .decode .ensures), sym (c .before .before .before .permits .ensures) ∙ (c .before .before .if1 .taken), sym (c .before .is-allowed .ensures) ∙ (c .if2 .taken))
 
--- src/lib.rt:414:5
 returns-2 : tie.Need-returns-2
 unfolding valid
 returns-2 c = rw (← (c .before .before .before .before .decode .ensures), sym (c .before .before .before .permits .ensures) ∙ (c .before .before .if1 .taken), sym (c .before .is-allowed .ensures) ∙ (c .if2 .left))
 
--- src/lib.rt:414:5
 returns-3 : tie.Need-returns-3
 unfolding valid
 returns-3 c = rw (← (c .before .before .decode .ensures), sym (c .before .permits .ensures) ∙ (c .if1 .left))

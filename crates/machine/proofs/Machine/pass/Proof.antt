@@ -2,33 +2,24 @@ use Rattle.machine.specs.Service.{passed}
 use borrow.Author.Needs.{needs}
 use Rattle.machine.proofs.Machine.pass.Statement.{statement}
 use Rattle.machine.proofs.Machine.pass.Tie as tie
-use Rattle.machine.proofs.Machine.pass.Reads as reads
-use Rattle.machine.proofs.Machine.pass.Lts as lts
-use Rattle.machine.proofs.Machine.answers.Reads as answers-reads
 
--- src/lib.rt:351:17
 answers-requires : tie.Need-answers-requires
 answers-requires c κs = search needs
 
--- src/lib.rt:351:17
 returns : tie.Need-returns
 unfolding passed
 returns c = simp ((c .before .before .if1 .taken), (c .before .if2 .taken), (c .answers .ensures))
 
--- src/lib.rt:353:13
 answers-requires-2 : tie.Need-answers-requires-2
 answers-requires-2 c κs = search needs
 
--- src/lib.rt:353:13
 returns-2 : tie.Need-returns-2
 unfolding passed
 returns-2 c = simp ((c .before .before .if1 .taken), (c .before .if2 .left), (c .answers2 .ensures))
 
--- src/lib.rt:355:9
 answers-requires-3 : tie.Need-answers-requires-3
 answers-requires-3 c κs = search needs
 
--- src/lib.rt:344:5
 returns-3 : tie.Need-returns-3
 unfolding passed
 returns-3 c = simp ((c .before .if1 .left), (c .answers3 .ensures))

@@ -3,187 +3,134 @@ use Rattle.machine.specs.Steps.{performed}
 use borrow.Author.Needs.{needs}
 use Rattle.machine.proofs.Machine.perform.Statement.{statement}
 use Rattle.machine.proofs.Machine.perform.Tie as tie
-use Rattle.machine.proofs.Machine.perform.Reads as reads
-use Rattle.machine.proofs.Machine.perform.Lts as lts
-use Rattle.machine.proofs.Machine.answers.Reads as answers-reads
-use Rattle.machine.proofs.Machine.boundary.Reads as boundary-reads
-use Rattle.machine.proofs.Machine.halt.Reads as halt-reads
-use Rattle.machine.proofs.Machine.load_registers.Reads as load-registers-reads
-use Rattle.machine.proofs.Machine.opcode.Reads as opcode-reads
-use Rattle.machine.proofs.Machine.read.Reads as read-reads
-use Rattle.machine.proofs.Machine.read_port.Reads as read-port-reads
-use Rattle.machine.proofs.Machine.reset.Reads as reset-reads
-use Rattle.machine.proofs.Machine.wake.Reads as wake-reads
-use Rattle.machine.proofs.Machine.write.Reads as write-reads
-use Rattle.machine.proofs.Machine.write_port.Reads as write-port-reads
 
--- src/lib.rt:617:21
 enum-told : tie.Need-enum-told
 enum-told c = search needs
 
--- src/lib.rt:617:21
 reset-requires : tie.Need-reset-requires
 reset-requires c κs = search needs
 
--- src/lib.rt:621:17
 enum-known-s : tie.Need-enum-known-s
 enum-known-s c = search needs
 
--- src/lib.rt:630:21
 load-registers-requires : tie.Need-load-registers-requires
 load-registers-requires c κs = search needs
 
--- src/lib.rt:642:26
 enum-known-s-2 : tie.Need-enum-known-s-2
 enum-known-s-2 c = search needs
 
--- src/lib.rt:642:46
 read-requires : tie.Need-read-requires
 read-requires c κs = read-formed _ 0 (rw ((c .before .before .before .s2 .given .1)) at (c .before .before .before .before .before .before .before .pre))
 
--- src/lib.rt:644:17
 enum-known-s-3 : tie.Need-enum-known-s-3
 enum-known-s-3 c = search needs
 
--- src/lib.rt:647:18
 write-requires : tie.Need-write-requires
 write-requires c κs = search needs
 
--- src/lib.rt:648:30
 enum-known-s-4 : tie.Need-enum-known-s-4
 enum-known-s-4 c = search needs
 
--- src/lib.rt:649:21
 read-port-requires : tie.Need-read-port-requires
 read-port-requires c κs = search needs
 
--- src/lib.rt:652:31
 enum-known-s-5 : tie.Need-enum-known-s-5
 enum-known-s-5 c = search needs
 
--- src/lib.rt:653:21
 write-port-requires : tie.Need-write-port-requires
 write-port-requires c κs = search needs
 
--- src/lib.rt:657:17
 enum-known-s-6 : tie.Need-enum-known-s-6
 enum-known-s-6 c = search needs
 
--- src/lib.rt:662:21
 opcode-requires : tie.Need-opcode-requires
 opcode-requires c κs = search needs
 
--- src/lib.rt:666:17
 enum-known-s-7 : tie.Need-enum-known-s-7
 enum-known-s-7 c = search needs
 
--- src/lib.rt:670:21
 boundary-requires : tie.Need-boundary-requires
 boundary-requires c κs = search needs
 
--- src/lib.rt:673:51
 enum-told-2 : tie.Need-enum-told-2
 enum-told-2 c = search needs
 
--- src/lib.rt:673:38
 answers-requires : tie.Need-answers-requires
 answers-requires c κs = search needs
 
--- src/lib.rt:675:21
 enum-told-3 : tie.Need-enum-told-3
 enum-told-3 c = search needs
 
--- src/lib.rt:675:21
 halt-requires : tie.Need-halt-requires
 halt-requires c κs = search needs
 
--- src/lib.rt:679:21
 enum-told-4 : tie.Need-enum-told-4
 enum-told-4 c = search needs
 
--- src/lib.rt:679:21
 wake-requires : tie.Need-wake-requires
 wake-requires c κs = search needs
 
--- src/lib.rt:610:5
 returns : tie.Need-returns
 unfolding performed
 returns c = rw ((c .before .enum-told .given .1), (c .reset .ensures))
 
--- src/lib.rt:610:5
 returns-2 : tie.Need-returns-2
 unfolding performed
 returns-2 c = rw ((c .before .before .s .given .1), (c .load-registers .ensures))
 
--- src/lib.rt:610:5
 same-length : tie.Need-same-length
 same-length c = search needs
 
--- src/lib.rt:610:5
 same-length-2 : tie.Need-same-length-2
 same-length-2 c = search needs
 
--- src/lib.rt:610:5
 returns-3 : tie.Need-returns-3
 unfolding performed
 returns-3 c = rw ((c .before .before .before .before .s2 .given .1), (c .read .ensures))
 
--- src/lib.rt:610:5
 same-length-3 : tie.Need-same-length-3
 same-length-3 c = search needs
 
--- src/lib.rt:610:5
 same-length-4 : tie.Need-same-length-4
 same-length-4 c = search needs
 
--- src/lib.rt:610:5
 returns-4 : tie.Need-returns-4
 unfolding performed
 returns-4 c = rw ((c .before .before .before .before .before .before .before .before .s3 .given .1)) (c .before .before .before .before .write .ensures)
 
--- src/lib.rt:610:5
 returns-5 : tie.Need-returns-5
 unfolding performed
 returns-5 c = rw ((c .before .before .s4 .given .1), (c .read-port .ensures))
 
--- src/lib.rt:610:5
 returns-6 : tie.Need-returns-6
 unfolding performed
 returns-6 c = rw ((c .before .before .s5 .given .1), (c .write-port .ensures))
 
--- src/lib.rt:610:5
 same-length-5 : tie.Need-same-length-5
 same-length-5 c = search needs
 
--- src/lib.rt:610:5
 same-length-6 : tie.Need-same-length-6
 same-length-6 c = search needs
 
--- src/lib.rt:610:5
 returns-7 : tie.Need-returns-7
 unfolding performed
 returns-7 c = rw ((c .before .before .before .before .before .before .before .before .s6 .given .1)) (c .before .before .before .before .opcode .ensures)
 
--- src/lib.rt:610:5
 same-length-7 : tie.Need-same-length-7
 same-length-7 c = search needs
 
--- src/lib.rt:610:5
 returns-8 : tie.Need-returns-8
 unfolding performed
 returns-8 c = rw ((c .before .before .before .before .before .s7 .given .1)) ((c .before .before .boundary .ensures) (c .before .before .before .before .before .before .before .before .before .args .main .now))
 
--- src/lib.rt:610:5
 returns-9 : tie.Need-returns-9
 unfolding performed
 returns-9 c = rw ((c .before .enum-told2 .given .1), (c .answers .ensures))
 
--- src/lib.rt:610:5
 returns-10 : tie.Need-returns-10
 unfolding performed
 returns-10 c = rw ((c .before .enum-told3 .given .1), (c .halt .ensures))
 
--- src/lib.rt:610:5
 returns-11 : tie.Need-returns-11
 unfolding performed
 returns-11 c = rw ((c .before .enum-told4 .given .1), (c .wake .ensures))

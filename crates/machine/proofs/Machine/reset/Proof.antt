@@ -1,20 +1,13 @@
 use borrow.Author.Needs.{needs}
 use Rattle.machine.proofs.Machine.reset.Statement.{statement}
 use Rattle.machine.proofs.Machine.reset.Tie as tie
-use Rattle.machine.proofs.Machine.reset.Reads as reads
-use Rattle.machine.proofs.Machine.reset.Lts as lts
-use Rattle.machine.proofs.Machine.answers.Reads as answers-reads
-use Rattle.machine.proofs.Machine.initial.Reads as initial-reads
 
--- src/lib.rt:493:9
 initial-requires : tie.Need-initial-requires
 initial-requires c κs = search needs
 
--- src/lib.rt:493:9
 answers-requires : tie.Need-answers-requires
 answers-requires c κs = search needs
 
--- src/lib.rt:490:5
 returns : tie.Need-returns
 returns c = rw ((c .answers .ensures), (c .before .initial .ensures))
 
