@@ -170,7 +170,7 @@ fn decode(kind: u16, body: &[u8], next: usize) -> Found
 }
 
 // What stands at any place of the trace, also past its end.
-pub fn read_record(trace: &[u8], at: usize) -> Found
+fn read_record(trace: &[u8], at: usize) -> Found
     ensures { λ r. ⌜ r ≡ foundAt (now (trace .entry)) at ⌝ }
 {
     if trace.len() <= at {
