@@ -46,7 +46,10 @@ same-length-2 c = search needs
 
 returns : tie.Need-returns
 unfolding operated
-returns c = (c .before .before .before .before .save .ensures) ∙ opcode-by _ _ _ _ _ _ _ (sym (c .before .before .before .before .before .before .before .before .name .given .1) ∙ (c .before .before .before .before .before .before .before .before .before .before .operation .ensures))
+returns c =
+    let called = c .before .before .before .before in
+    let told = called .before .before .before .before in
+    called .save .ensures ∙ opcode-by _ _ _ _ _ _ _ (sym (told .name .given .1) ∙ told .before .before .operation .ensures)
 
 same-length-3 : tie.Need-same-length-3
 same-length-3 c = search needs

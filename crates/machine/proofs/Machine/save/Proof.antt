@@ -28,7 +28,12 @@ same-length-2 : tie.Need-same-length-2
 same-length-2 c = search needs
 
 returns : tie.Need-returns
-returns c = rw ((c .answers .ensures), (c .before .advance .ensures)) (save-there _ _ _ (c .before .before .before .before .before .before .before .before .before .before .before .before .window .ensures) _ _ _ _ (c .before .before .before .before .before .before .before .before .before .before .all-there .ensures) (c .before .before .before .before .before .before .before .before .before .if1 .taken) _ (c .before .before .before .before .before .before .before .before .before .before .before .segment .ensures) _ (c .before .before .before .before .before .before .store-segment .ensures))
+returns c =
+    let stored = c .before .before .before .before .before .before in
+    let tested = stored .before .before .before in
+    rw (c .answers .ensures, c .before .advance .ensures)
+    (save-there _ _ _ (tested .before .before .before .window .ensures) _ _ _ _ (tested .before .all-there .ensures) (tested .if1 .taken) _
+    (tested .before .before .segment .ensures) _ (stored .store-segment .ensures))
 
 answers-requires-2 : tie.Need-answers-requires-2
 answers-requires-2 c κs = search needs

@@ -39,7 +39,12 @@ same-length-4 : tie.Need-same-length-4
 same-length-4 c = search needs
 
 returns-2 : tie.Need-returns-2
-returns-2 c = (c .before .before .before .before .perform .ensures) ∙ step-allowed _ _ _ _ _ (c .before .before .before .before .before .before .before .before .before .before .before .before .anew .ensures) (c .before .before .before .before .before .before .before .before .before .first-refusal .ensures) (c .before .before .before .before .before .before .before .enum-told .given .1)
+returns-2 c =
+    let called = c .before .before .before .before in
+    let told = called .before .before .before in
+    let asked = told .before .before in
+    called .perform .ensures
+    ∙ step-allowed _ _ _ _ _ (asked .before .before .before .anew .ensures) (asked .first-refusal .ensures) (told .enum-told .given .1)
 
 pub step-spec : {M : Type 1} → statement M
 step-spec =
