@@ -251,5 +251,9 @@ tested : every sheet ≡ true
 unfolding every test sameBytes names sheet regionOf sizeOf usable isWidth lockedBits numberBy bytesOf flatMap sizeBits cut headerBytes entryCr0 entryCs
 tested = refl
 
+counted : length sheet ≡ 15
+unfolding sheet
+counted = refl
+
 pub sheet-holds : SheetHolds
-sheet-holds = rows sheet tested
+sheet-holds = (counted, rows sheet tested)

@@ -190,5 +190,6 @@ sheet =
 abbrev pub rowAt : List Line → ℕ → Line
 rowAt ls k = getD ls k (IsUsable 0 0 false)
 
+-- every row holds; with the count no row can go unnoticed
 abbrev pub SheetHolds : Type 0
-SheetHolds = (k : ℕ) → k < length sheet → states (rowAt sheet k)
+SheetHolds = (length sheet ≡ 15) × ((k : ℕ) → k < length sheet → states (rowAt sheet k))

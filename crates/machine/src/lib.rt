@@ -26,6 +26,8 @@ use steps::Answer;
 use steps::Interruption;
 use steps::Step;
 
+const OPERAND_LENGTH: u8 = 10;
+
 pub struct Segments {
     pub ds: Segment,
     pub es: Segment,
@@ -386,7 +388,7 @@ impl Machine {
     {
         let window = self.window();
         let s = self.segment(name);
-        if memory::all_there(window, main.len(), address, 10) {
+        if memory::all_there(window, main.len(), address, OPERAND_LENGTH) {
             memory::store_segment(window, main, management, address, s);
             return self.advance(next).answers(Answer::Done);
         }
@@ -405,7 +407,7 @@ impl Machine {
         ensures { λ r. ⌜ r ≡ restored self (memories (now (main .entry)) (now (management .entry))) name address next ⌝ }
     {
         let window = self.window();
-        if memory::all_there(window, main.len(), address, 10) {
+        if memory::all_there(window, main.len(), address, OPERAND_LENGTH) {
             let s = memory::load_segment(window, main, management, address);
             return self.with_segment(name, s)
                 .advance(next)

@@ -4,50 +4,13 @@ use libc::STDOUT_FILENO;
 use machine::Machine;
 
 fn show(main_size: usize, management_size: usize) {
-    let trace = [
-        2u8,
-        0,
-        1,
-        0, //
-        11,
-        0,
-        4,
-        0,
-        1,
-        0,
-        0,
-        0,
-        0,
-        0xAB,
-        0,
-        0,
-        0, //
-        7,
-        0,
-        3,
-        0,
-        1,
-        0,
-        0,
-        0,
-        0, //
-        7,
-        0,
-        3,
-        0,
-        1,
-        0xFF,
-        0xFF,
-        0x0F,
-        0,
-    ];
     let mut main = [0u8; 1048577];
     let mut management = [0u8; 65537];
     let m = fields::at_most(main_size, 1048577);
     let g = fields::at_most(management_size, 65537);
     let mut out = [0u8; 130006];
     let size = player::replay(
-        &trace,
+        b"\x02\0\x01\0\x0b\0\x04\0\x01\0\0\0\0\xab\0\0\0\x07\0\x03\0\x01\0\0\0\0\x07\0\x03\0\x01\xff\xff\x0f\0",
         Machine::initial(),
         &mut main[0..m],
         &mut management[0..g],
