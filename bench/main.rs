@@ -5,48 +5,12 @@
 //   rt staticlib export && rustc -O bench/main.rs -L target/staticlib -l static=export -o target/replay-bench && target/replay-bench
 use std::time::Instant;
 
-extern "C" {
-    // The slices pass as a pointer and a length, the arrays and the number as a pointer.
-    fn rostuvlad_replay(
-        trace: *const u8,
-        trace_len: usize,
-        main: *mut u8,
-        main_len: usize,
-        management: *mut u8,
-        management_len: usize,
-        events: *mut u64,
-        reason: *mut u8,
-    ) -> usize;
-}
+#[path = "../include/rostuvlad.rs"]
+mod rostuvlad;
+use rostuvlad::{Event, Reason, RECORD_LIMIT};
 
 const MEMORY: usize = 65_536;
-const RECORDS: usize = 10_000;
 const ACCESSES: usize = 5_000;
-
-struct Bench {
-    main: Vec<u8>,
-    management: Vec<u8>,
-    events: Vec<u64>,
-    reason: u8,
-}
-
-impl Bench {
-    fn replay(&mut self, trace: &[u8]) -> usize {
-        assert!(self.events.len() == RECORDS);
-        unsafe {
-            rostuvlad_replay(
-                trace.as_ptr(),
-                trace.len(),
-                self.main.as_mut_ptr(),
-                self.main.len(),
-                self.management.as_mut_ptr(),
-                self.management.len(),
-                self.events.as_mut_ptr(),
-                &mut self.reason,
-            )
-        }
-    }
-}
 
 fn out(trace: &mut Vec<u8>, port: u16, value: u8) {
     trace.extend([5, 0, 6, 0]);
@@ -90,21 +54,16 @@ fn trace(start: u64) -> Vec<u8> {
 
 fn main() {
     let runs: usize = std::env::args().nth(1).map_or(3_000, |n| n.parse().expect("a number of runs"));
-    let mut b = Bench {
-        main: vec![0; MEMORY],
-        management: vec![0; MEMORY],
-        events: vec![0; RECORDS],
-        reason: 9,
-    };
+    let (mut main, mut management, mut log) = (vec![0; MEMORY], vec![0; MEMORY], [Event::default(); RECORD_LIMIT]);
     let mut times = vec![];
     for run in 0..runs {
         let t = trace(12_345 + run as u64);
-        b.main.fill(0);
-        b.management.fill(0);
+        main.fill(0);
+        management.fill(0);
         let start = Instant::now();
-        let count = b.replay(&t);
+        let (count, reason) = rostuvlad::replay_into(&t, &mut main, &mut management, &mut log);
         times.push(start.elapsed().as_nanos() as f64);
-        assert!(count == ACCESSES + 8 && b.reason == 0, "count {count}, reason {}", b.reason);
+        assert!(count == ACCESSES + 8 && reason == Reason::End, "count {}, reason {:?}", count, reason);
     }
     times.sort_by(|x, y| x.total_cmp(y));
     let per = |ns: f64| ns / (ACCESSES + 8) as f64;

@@ -1,0 +1,76 @@
+//! Replays 01's printed example, and then a trace on a management memory that the caller filled.
+//! `examples/run` holds what this prints to what was worked out from 01 by hand.
+
+#[path = "../include/rostuvlad.rs"]
+mod rostuvlad;
+
+use rostuvlad::{Event, Reason, MANAGEMENT_SIZE};
+
+#[rustfmt::skip]
+const PRINTED: &[u8] = &[
+    5, 0, 6, 0, 0x22, 0, 0xC1, // out 22h C1h
+    5, 0, 6, 0, 0x23, 0, 0x06, // out 23h 06h
+    5, 0, 6, 0, 0x22, 0, 0xC1, // out 22h C1h
+    4, 0, 5, 0, 0x23, 0,       // in 23h
+];
+
+#[rustfmt::skip]
+const WINDOW: &[u8] = &[
+    // SMAR 000683h: the region is 16 KiB at 68000h, and its byte k is management[k]
+    5, 0, 6, 0, 0x22, 0, 0xCD,
+    5, 0, 6, 0, 0x23, 0, 0x00,
+    5, 0, 6, 0, 0x22, 0, 0xCE,
+    5, 0, 6, 0, 0x23, 0, 0x06,
+    5, 0, 6, 0, 0x22, 0, 0xCF,
+    5, 0, 6, 0, 0x23, 0, 0x83,
+    // CCR1 06h: USE_SMI and SMAC, the window is open
+    5, 0, 6, 0, 0x22, 0, 0xC1,
+    5, 0, 6, 0, 0x23, 0, 0x06,
+    // read 4 68010h; write 4 68020h 11223344h; read 2 68022h
+    7, 0, 3, 0, 4, 0x10, 0x80, 0x06, 0,
+    11, 0, 4, 0, 4, 0x20, 0x80, 0x06, 0, 0x44, 0x33, 0x22, 0x11,
+    7, 0, 3, 0, 2, 0x22, 0x80, 0x06, 0,
+    // CCR1 02h: closed. read 4 68020h is main memory's then, beyond its end
+    5, 0, 6, 0, 0x22, 0, 0xC1,
+    5, 0, 6, 0, 0x23, 0, 0x02,
+    7, 0, 3, 0, 4, 0x20, 0x80, 0x06, 0,
+    // boundary with SMI at 1000h; the handler's read 4 68020h
+    19, 0, 8, 0, 1, 0x00, 0x10, 0, 0, 0, 0, 0, 0, 0, 0, 0, 0, 0, 0, 0, 0,
+    7, 0, 3, 0, 4, 0x20, 0x80, 0x06, 0,
+];
+
+fn replay(trace: &[u8], main: &mut [u8], management: &mut [u8]) -> Vec<Event> {
+    let played = rostuvlad::replay(trace, main, management);
+    for event in &played.events {
+        println!("{} {:08x}", event.answer(), event.value());
+    }
+    let word = match played.reason {
+        Reason::End => "end",
+        Reason::Limit => "limit",
+        Reason::Torn => "torn",
+        Reason::Bad => "bad",
+    };
+    println!("{word}");
+    played.events
+}
+
+fn main() {
+    let mut main = vec![0; 65_536];
+    let mut management = vec![0; MANAGEMENT_SIZE];
+    replay(PRINTED, &mut main, &mut management);
+
+    for (k, byte) in management.iter_mut().enumerate() {
+        *byte = k as u8;
+    }
+    let events = replay(WINDOW, &mut main, &mut management);
+    for (i, event) in events.iter().enumerate() {
+        if event.inside() {
+            println!("record {}, of kind {}, was inside", i + 1, event.kind());
+        }
+    }
+    print!("management 1Fh to 24h:");
+    for byte in &management[0x1F..=0x24] {
+        print!(" {byte:02x}");
+    }
+    println!();
+}

@@ -1,0 +1,81 @@
+//! Files that are read, and how a text is told from a binary trace.
+
+use crate::form::first_record;
+use crate::text::{parse, Problem, Text};
+use std::ffi::OsStr;
+use std::fs::File;
+use std::io::{self, Read};
+
+/// No text of a trace is longer.
+const TEXT_LIMIT: usize = 64 << 20;
+
+/// What the system says, without its number.
+pub fn reason_of(e: &io::Error) -> String {
+    let whole = e.to_string();
+    match whole.split_once(" (os error") {
+        Some((said, _)) => said.into(),
+        None => whole,
+    }
+}
+
+/// A file's name for messages; `-` is standard input.
+pub fn name_of(path: &OsStr) -> String {
+    match path == "-" {
+        true => "standard input".into(),
+        false => path.to_string_lossy().escape_debug().collect(),
+    }
+}
+
+/// A file's bytes, cut after one more than this.
+pub fn read_most(path: &OsStr, most: usize) -> Result<Vec<u8>, String> {
+    let source: io::Result<Box<dyn Read>> = match path == "-" {
+        true => Ok(Box::new(io::stdin().lock())),
+        false => File::open(path).map(|file| Box::new(file) as Box<dyn Read>),
+    };
+    let mut bytes = Vec::new();
+    source
+        .and_then(|source| source.take(most as u64 + 1).read_to_end(&mut bytes))
+        .map_err(|e| format!("{}: {}", name_of(path), reason_of(&e)))?;
+    Ok(bytes)
+}
+
+/// A file that holds a trace, in either form; it is cut after one byte more than a text may have.
+pub fn read_trace(path: &OsStr) -> Result<Vec<u8>, String> {
+    read_most(path, TEXT_LIMIT)
+}
+
+/// A text that an editor saved in two bytes a character, by its byte order mark.
+fn is_utf_16(bytes: &[u8]) -> bool {
+    matches!(bytes, [0xFF, 0xFE, _, 0, ..] | [0xFE, 0xFF, 0, ..])
+}
+
+/// Whether the bytes are a trace's text. A binary trace begins with a record, or is full of control
+/// characters: each record has two at the least, and is 32 bytes long at most. A text that was
+/// damaged is still taken for a text, so that its lines are judged.
+pub fn is_text(bytes: &[u8]) -> bool {
+    let strange = |b: &&u8| matches!(b, 0..=8 | 11 | 12 | 14..=31);
+    let few = bytes.iter().filter(strange).count() * 16 <= bytes.len();
+    first_record(bytes).is_err() && (few || is_utf_16(bytes))
+}
+
+/// A text's lines, or what is wrong with it.
+pub fn read_text(name: &str, bytes: &[u8]) -> Result<Text, String> {
+    if is_utf_16(bytes) {
+        return Err(format!("{name}: UTF-16 text: save the file as UTF-8"));
+    }
+    if bytes.len() > TEXT_LIMIT {
+        return Err(format!("{name}: longer than {TEXT_LIMIT} bytes"));
+    }
+    parse(bytes).map_err(|problems| listed(name, &problems))
+}
+
+/// What is wrong with a file, a line for each of the first problems.
+pub fn listed(name: &str, problems: &[Problem]) -> String {
+    const MOST: usize = 20;
+    let line = |p: &Problem| format!("{name}:{}: {}", p.line, p.what);
+    let mut lines: Vec<String> = problems.iter().take(MOST).map(line).collect();
+    if problems.len() > MOST {
+        lines.push(format!("{name}: {} more errors", problems.len() - MOST));
+    }
+    lines.join("\n")
+}

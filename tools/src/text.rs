@@ -1,0 +1,289 @@
+//! A trace's text (docs/TRACES.md): its lines, what they expect, and the bytes that they stand for.
+
+use crate::form::Stop;
+use crate::words::{parse_number, quoted, record};
+use std::ops::Range;
+
+/// What is wrong with a line.
+pub struct Problem {
+    pub line: usize,
+    pub what: String,
+}
+
+impl Problem {
+    pub fn at(line: usize, what: impl Into<String>) -> Problem {
+        Problem {
+            line,
+            what: what.into(),
+        }
+    }
+}
+
+/// An answer's number and value.
+pub type Answer = (u8, u32);
+
+/// A line that stands for bytes.
+pub struct Line {
+    pub number: usize,
+    pub bytes: Vec<u8>,
+    pub raw: bool,
+    pub expected: Option<Answer>,
+}
+
+/// Lines that stand for their bytes so many times: those of a `repeat`, or some outside of any.
+pub struct Block {
+    pub lines: Range<usize>,
+    pub turns: usize,
+    /// The line of `repeat`, and that of `end-repeat`.
+    pub repeat: Option<(usize, usize)>,
+}
+
+#[derive(Default)]
+pub struct Text {
+    /// The file's lines as they stand.
+    pub source: Vec<String>,
+    pub lines: Vec<Line>,
+    pub blocks: Vec<Block>,
+    /// The reason that is expected, and its line.
+    pub reason: Option<(usize, Stop)>,
+}
+
+/// Where a line's bytes stand in the trace, in one turn of its block.
+pub struct Place {
+    pub line: usize,
+    pub bytes: Range<usize>,
+}
+
+impl Text {
+    /// Every line in the order of its bytes, as often as it stands there.
+    fn unrolled(&self) -> impl Iterator<Item = usize> + '_ {
+        self.blocks
+            .iter()
+            .flat_map(|block| (0..block.turns).flat_map(|_| block.lines.clone()))
+    }
+
+    /// The trace in pieces, as long as it may be.
+    pub fn pieces(&self) -> impl Iterator<Item = &[u8]> {
+        self.unrolled().map(|line| &self.lines[line].bytes[..])
+    }
+
+    /// The trace and the place of each line in it; nothing if it has more bytes than this.
+    pub fn placed(&self, most: usize) -> Option<(Vec<u8>, Vec<Place>)> {
+        let (mut bytes, mut places) = (Vec::new(), Vec::new());
+        for line in self.unrolled() {
+            let start = bytes.len();
+            bytes.extend_from_slice(&self.lines[line].bytes);
+            if bytes.len() > most {
+                return None;
+            }
+            places.push(Place {
+                line,
+                bytes: start..bytes.len(),
+            });
+        }
+        Some((bytes, places))
+    }
+}
+
+/// The file's lines, without a byte order mark.
+fn lines_of(bytes: &[u8]) -> impl Iterator<Item = &[u8]> {
+    let bytes = bytes.strip_prefix(b"\xEF\xBB\xBF").unwrap_or(bytes);
+    let bytes = bytes.strip_suffix(b"\n").unwrap_or(bytes);
+    bytes
+        .split(|b| *b == b'\n')
+        .map(|line| line.strip_suffix(b"\r").unwrap_or(line))
+}
+
+/// A line's text. What could hide a record from whoever reads the file is refused, in comments too:
+/// another line break than the usual ones, or bytes that each editor shows as it likes.
+fn text_of(line: &[u8]) -> Result<&str, String> {
+    let text = std::str::from_utf8(line).map_err(|e| {
+        let byte = line[e.valid_up_to()];
+        format!("the byte {byte:02X}h is not UTF-8: save the file as UTF-8")
+    })?;
+    let hidden = |c: &char| c.is_control() && *c != '\t' || matches!(c, '\u{2028}' | '\u{2029}');
+    match text.chars().find(hidden).map(u32::from) {
+        Some(c) => Err(format!("the character {c:02X}h has no place in a text: take it out")),
+        None => Ok(text),
+    }
+}
+
+/// The text before a comment, and the comment.
+pub fn without_comment(line: &str) -> (&str, Option<&str>) {
+    match line.split_once('#') {
+        Some((code, comment)) => (code, Some(comment)),
+        None => (line, None),
+    }
+}
+
+pub fn parse(bytes: &[u8]) -> Result<Text, Vec<Problem>> {
+    let (mut problems, mut reading) = (Vec::new(), Reading::default());
+    for (index, line) in lines_of(bytes).enumerate() {
+        let read = text_of(line).and_then(|line| reading.line(index + 1, line));
+        if let Err(what) = read {
+            problems.push(Problem::at(index + 1, what));
+        }
+    }
+    if let Some(open) = &reading.open {
+        problems.push(Problem::at(open.line, "`repeat` without `end-repeat`"));
+    }
+    if !problems.is_empty() {
+        problems.sort_by_key(|p| p.line);
+        return Err(problems);
+    }
+    reading.close_plain();
+    Ok(reading.text)
+}
+
+/// A `repeat` whose end has not come yet.
+struct Open {
+    line: usize,
+    turns: usize,
+    /// Whether a record was named in it, rightly or not.
+    holds: bool,
+}
+
+#[derive(Default)]
+struct Reading {
+    text: Text,
+    open: Option<Open>,
+    /// The first line that no block has yet.
+    first: usize,
+}
+
+impl Reading {
+    fn line(&mut self, number: usize, line: &str) -> Result<(), String> {
+        self.text.source.push(line.into());
+        let (code, _) = without_comment(line);
+        let (left, right) = match code.split_once("=>") {
+            Some((left, right)) => (left, Some(right.split_whitespace().collect::<Vec<_>>())),
+            None => (code, None),
+        };
+        let words: Vec<&str> = left.split_whitespace().collect();
+        if words.is_empty() && right.is_none() {
+            return Ok(());
+        }
+        if self.text.reason.is_some() {
+            return Err("nothing may follow the reason for stopping".into());
+        }
+        let Some(name) = words.first().map(|w| w.to_ascii_lowercase()) else {
+            return self.reason(number, &right.unwrap_or_default());
+        };
+        // With an error too it opens or closes, so that the lines after it are judged rightly.
+        let done = match name.as_str() {
+            "repeat" => self.repeat(number, &words),
+            "end-repeat" => self.end_repeat(number, &words),
+            _ => return self.record(number, &words, right.as_deref()),
+        };
+        match right {
+            Some(_) => Err(format!("`{name}` has no expectation")),
+            None => done,
+        }
+    }
+
+    fn reason(&mut self, number: usize, words: &[&str]) -> Result<(), String> {
+        let stop = match words {
+            [word] => Stop::named(word),
+            _ => None,
+        };
+        let stop = stop.ok_or("after `=>` alone stands the reason: end, limit, torn, bad or long")?;
+        match self.open {
+            Some(_) => Err("the reason stands inside a repeat".into()),
+            None => {
+                self.text.reason = Some((number, stop));
+                Ok(())
+            }
+        }
+    }
+
+    fn repeat(&mut self, number: usize, words: &[&str]) -> Result<(), String> {
+        if let Some(open) = &self.open {
+            return Err(format!("a repeat is open since line {}", open.line));
+        }
+        self.close_plain();
+        let turns = match words[1..] {
+            [count] => parse_number(count, 16),
+            _ => Err("`repeat` takes one number".into()),
+        };
+        self.open = Some(Open {
+            line: number,
+            turns: *turns.as_ref().unwrap_or(&1) as usize,
+            holds: false,
+        });
+        match turns? {
+            0 => Err("`repeat 0` plays nothing: take its lines out".into()),
+            _ => Ok(()),
+        }
+    }
+
+    fn end_repeat(&mut self, number: usize, words: &[&str]) -> Result<(), String> {
+        let open = self.open.take().ok_or("no repeat is open")?;
+        let lines = self.first..self.text.lines.len();
+        self.first = lines.end;
+        self.text.blocks.push(Block {
+            lines,
+            turns: open.turns,
+            repeat: Some((open.line, number)),
+        });
+        match words {
+            [_] if !open.holds => Err("this repeat holds no record".into()),
+            [_] => Ok(()),
+            _ => Err("`end-repeat` takes nothing".into()),
+        }
+    }
+
+    /// The lines so far that stand outside of any repeat are a block.
+    fn close_plain(&mut self) {
+        let lines = self.first..self.text.lines.len();
+        self.first = lines.end;
+        if !lines.is_empty() {
+            self.text.blocks.push(Block {
+                lines,
+                turns: 1,
+                repeat: None,
+            });
+        }
+    }
+
+    fn record(
+        &mut self,
+        number: usize,
+        words: &[&str],
+        right: Option<&[&str]>,
+    ) -> Result<(), String> {
+        if let Some(open) = &mut self.open {
+            open.holds = true;
+        }
+        let line = Line {
+            number,
+            bytes: record(words)?,
+            raw: words[0].eq_ignore_ascii_case("raw"),
+            expected: right.map(answer).transpose()?,
+        };
+        self.text.lines.push(line);
+        Ok(())
+    }
+}
+
+/// An expectation, as it is printed: the answer's number, and the value in eight hex digits, which
+/// may be left out where it is zero.
+fn answer(words: &[&str]) -> Result<Answer, String> {
+    let (number, value) = match words {
+        [number] => (*number, "00000000"),
+        [number, value] => (*number, *value),
+        _ => return Err("after `=>` stand the answer's number and its value".into()),
+    };
+    let number = (0..=12)
+        .find(|n: &u8| n.to_string() == number)
+        .ok_or_else(|| format!("{} is no answer: write one of 0 to 12", quoted(number)))?;
+    let digit = |b| matches!(b, b'0'..=b'9' | b'a'..=b'f');
+    if value.len() != 8 || !value.bytes().all(digit) {
+        let value = quoted(value);
+        return Err(format!("the value {value} is not eight lowercase hex digits"));
+    }
+    let value = u32::from_str_radix(value, 16).map_err(|e| e.to_string())?;
+    match number != 6 && value != 0 {
+        true => Err(format!("answer {number} carries no value: only 6 does")),
+        false => Ok((number, value)),
+    }
+}

@@ -1,0 +1,131 @@
+//! The program behind tools/trace: a trace's text to bytes, bytes to text, and the output that a
+//! text expects. It knows the form of records only, and nothing of what a step does.
+
+#![allow(dead_code)] // the modules are those of tools/replay too
+
+mod files;
+mod form;
+mod output;
+mod show;
+mod text;
+mod words;
+
+use files::{is_text, listed, name_of, read_text, read_trace};
+use form::{framing, Stop, INPUT_LIMIT};
+use output::Output;
+use std::collections::BTreeMap;
+use std::ffi::OsString;
+use std::process::exit;
+use text::{Place, Problem, Text};
+
+const HELP: &str = include_str!("trace.help");
+
+fn fail(problem: &str) -> ! {
+    eprintln!("{problem}");
+    exit(2)
+}
+
+/// The text of a file that has to be one.
+fn text_in(name: &str, bytes: &[u8]) -> Result<Text, String> {
+    match is_text(bytes) {
+        true => read_text(name, bytes),
+        false => Err(format!(
+            "{name}: a binary trace, not a text: `tools/trace text FILE` shows it as text"
+        )),
+    }
+}
+
+/// The output that the text expects. Each record that is played has to end in a line with an
+/// expectation, and each expectation to stand on a line where one ends, in every turn.
+fn expectation(text: &Text) -> Result<String, Vec<Problem>> {
+    let (out, stop, mut problems) = match text.placed(INPUT_LIMIT) {
+        Some((bytes, places)) => played(text, &bytes, &places),
+        None => (String::new(), Stop::Long, unplayed(text)),
+    };
+    let (line, what) = match text.reason {
+        Some((_, reason)) if reason == stop => (0, None),
+        Some((line, reason)) => (
+            line,
+            Some(format!("the records stop with {}, not {}", stop.word(), reason.word())),
+        ),
+        None => (
+            text.source.len(),
+            Some("the last line, `=> end` or another reason, is missing".into()),
+        ),
+    };
+    problems.extend(what.map(|what| Problem::at(line, what)));
+    match problems.is_empty() {
+        true => Ok(format!("{out}{}\n", stop.word())),
+        false => Err(problems),
+    }
+}
+
+const UNPLAYED: &str = "no record that is played ends here";
+
+/// Nothing of a trace that is too long is played.
+fn unplayed(text: &Text) -> Vec<Problem> {
+    let expecting = text.lines.iter().filter(|line| line.expected.is_some());
+    expecting
+        .map(|line| Problem::at(line.number, UNPLAYED))
+        .collect()
+}
+
+fn played(text: &Text, bytes: &[u8], places: &[Place]) -> (String, Stop, Vec<Problem>) {
+    let (ends, stop) = framing(bytes);
+    let mut ends = ends.into_iter().peekable();
+    let mut out = String::new();
+    // By line, since a line of a repeat is at fault once and not in each turn.
+    let mut problems = BTreeMap::new();
+    for place in places {
+        let line = &text.lines[place.line];
+        let mut none = true;
+        while ends.next_if(|end| *end <= place.bytes.end).is_some() {
+            none = false;
+            match line.expected {
+                Some((answer, value)) => out.push_str(&format!("{answer} {value:08x}\n")),
+                None => {
+                    problems.insert(line.number, "a record ends here, and nothing is expected");
+                }
+            }
+        }
+        if none && line.expected.is_some() {
+            problems.insert(line.number, UNPLAYED);
+        }
+    }
+    let problems = problems.into_iter();
+    let problems = problems.map(|(line, what)| Problem::at(line, what));
+    (out, stop, problems.collect())
+}
+
+fn run(command: &str, path: &OsString, out: &mut Output) -> Result<(), String> {
+    let name = name_of(path);
+    let bytes = read_trace(path)?;
+    match command {
+        "text" => {
+            if !bytes.is_empty() && is_text(&bytes) {
+                eprintln!("{name}: looks like text; shown as the bytes of a trace");
+            }
+            out.put(show::show_trace(&bytes).as_bytes());
+        }
+        "bytes" => text_in(&name, &bytes)?.pieces().for_each(|p| out.put(p)),
+        _ => {
+            let expected = expectation(&text_in(&name, &bytes)?);
+            out.put(expected.map_err(|problems| listed(&name, &problems))?.as_bytes());
+        }
+    }
+    Ok(())
+}
+
+fn main() {
+    let args: Vec<OsString> = std::env::args_os().skip(1).collect();
+    let mut out = Output::new("tools/trace");
+    match &args[..] {
+        [help] if help == "--help" || help == "-h" => out.put(HELP.as_bytes()),
+        [command, path] if ["bytes", "text", "expect"].iter().any(|c| command == c) => {
+            let done = run(&command.to_string_lossy(), path, &mut out);
+            done.unwrap_or_else(|problem| fail(&problem));
+        }
+        _ => fail("tools/trace: not `bytes FILE`, `text FILE` or `expect FILE`: see --help"),
+    }
+    out.close();
+}

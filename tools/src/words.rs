@@ -1,0 +1,288 @@
+//! The words of a line to a record's bytes (docs/TRACES.md).
+
+use crate::form::{BOUNDARY, HALT, IN, OPCODE, OUT, READ, REGISTERS, RESET, WAKE, WRITE};
+
+pub const INTERRUPTIONS: [&str; 7] = [
+    "none",
+    "input",
+    "output",
+    "string-input",
+    "string-output",
+    "rep-input",
+    "rep-output",
+];
+pub const SEGMENTS: [&str; 6] = ["es", "cs", "ss", "ds", "fs", "gs"];
+/// Opcodes 78h to 7Dh. The first two name a segment.
+pub const OPERAND_OPCODES: [&str; 6] = ["svdc", "rsdc", "svldt", "rsldt", "svts", "rsts"];
+pub const FIRST_OPERAND_OPCODE: u8 = 0x78;
+pub const SMINT: u8 = 0x7E;
+pub const RSM: u8 = 0xAA;
+/// ModRM of a mnemonic: an address alone (mod 0, r/m 5); the middle field is added.
+pub const ADDRESS_ALONE: u8 = 0x05;
+
+/// A word in a message: whatever a file holds, it stays on its line and readable.
+pub fn quoted(word: &str) -> String {
+    const MOST: usize = 40;
+    let mut cut: String = word.chars().take(MOST).collect();
+    if cut.len() < word.len() {
+        cut.push_str("..");
+    }
+    format!("`{cut}`")
+}
+
+/// A number of at most so many bits: decimal, or hex with a trailing h or a leading 0x.
+pub fn parse_number(word: &str, bits: u32) -> Result<u32, String> {
+    let leading = word.strip_prefix("0x").or(word.strip_prefix("0X"));
+    let (digits, radix) = match (leading, word.strip_suffix(['h', 'H'])) {
+        (Some(digits), _) | (None, Some(digits)) => (digits, 16),
+        (None, None) => (word, 10),
+    };
+    // from_str_radix alone would take a sign too.
+    if digits.is_empty() || !digits.chars().all(|c| c.is_digit(radix)) {
+        let word = quoted(word);
+        return Err(format!("{word} is no number: write 34, or hex as 22h or 0x22"));
+    }
+    match u64::from_str_radix(digits, radix) {
+        Ok(n) if n < 1u64 << bits => Ok(n as u32),
+        _ => Err(format!("{} doesn't fit {bits} bits", quoted(word))),
+    }
+}
+
+/// Which of the names a word is, in small letters or in capitals.
+fn place_in(names: &[&str], word: &str) -> Option<usize> {
+    names.iter().position(|name| name.eq_ignore_ascii_case(word))
+}
+
+/// The words after a record's name, taken one by one: first those by place, then those by key.
+struct Words<'a> {
+    name: &'a str,
+    left: Vec<&'a str>,
+}
+
+impl<'a> Words<'a> {
+    fn next(&mut self, what: &str) -> Result<&'a str, String> {
+        match self.left.first() {
+            Some(word) if !word.contains('=') => Ok(self.left.remove(0)),
+            _ => Err(format!("`{}` lacks its {what}", self.name)),
+        }
+    }
+
+    fn next_number(&mut self, what: &str, bits: u32) -> Result<u32, String> {
+        let word = self.next(what)?;
+        parse_number(word, bits).map_err(|e| format!("{what}: {e}"))
+    }
+
+    fn key(&mut self, key: &str) -> Option<&'a str> {
+        let found = self.left.iter().position(|w| {
+            w.split_once('=')
+                .is_some_and(|(k, _)| k.eq_ignore_ascii_case(key))
+        })?;
+        self.left
+            .remove(found)
+            .split_once('=')
+            .map(|(_, value)| value)
+    }
+
+    /// A field that is not written is 0.
+    fn key_number(&mut self, key: &str, bits: u32) -> Result<u32, String> {
+        match self.key(key) {
+            None => Ok(0),
+            Some(word) => parse_number(word, bits).map_err(|e| format!("{key}: {e}")),
+        }
+    }
+
+    /// All words must have been taken: a field given twice or unknown is left over.
+    fn done(&self) -> Result<(), String> {
+        match self.left.first() {
+            None => Ok(()),
+            Some(word) => Err(format!(
+                "`{}` doesn't take {}, or not twice",
+                self.name,
+                quoted(word)
+            )),
+        }
+    }
+}
+
+#[derive(Default)]
+struct Body(Vec<u8>);
+
+impl Body {
+    fn byte(mut self, n: u32) -> Body {
+        self.0.push(n as u8);
+        self
+    }
+
+    fn half(mut self, n: u32) -> Body {
+        self.0.extend_from_slice(&(n as u16).to_le_bytes());
+        self
+    }
+
+    fn word(mut self, n: u32) -> Body {
+        self.0.extend_from_slice(&n.to_le_bytes());
+        self
+    }
+
+    fn bytes(mut self, b: &[u8]) -> Body {
+        self.0.extend_from_slice(b);
+        self
+    }
+
+    fn record(self, kind: u16) -> Vec<u8> {
+        let mut out = Body::default()
+            .half(self.0.len() as u32 + 2)
+            .half(kind.into())
+            .0;
+        out.extend_from_slice(&self.0);
+        out
+    }
+}
+
+/// The bytes of the record that a line's words name, or of a `raw` line.
+pub fn record(words: &[&str]) -> Result<Vec<u8>, String> {
+    let name = words[0].to_ascii_lowercase();
+    let mut w = Words {
+        name: &name,
+        left: words[1..].to_vec(),
+    };
+    let body = Body::default();
+    let bytes = match name.as_str() {
+        "reset" => body.record(RESET),
+        "halt" => body.record(HALT),
+        "wake" => body.record(WAKE),
+        "registers" => registers(&mut w)?,
+        "read" => body
+            .byte(w.next_number("width", 8)?)
+            .word(w.next_number("address", 32)?)
+            .record(READ),
+        "write" => body
+            .byte(w.next_number("width", 8)?)
+            .word(w.next_number("address", 32)?)
+            .word(w.next_number("value", 32)?)
+            .record(WRITE),
+        "in" => body.half(w.next_number("port", 16)?).record(IN),
+        "out" => body
+            .half(w.next_number("port", 16)?)
+            .byte(w.next_number("value", 8)?)
+            .record(OUT),
+        "opcode" => {
+            let byte = w.next_number("byte", 8)?;
+            let modrm = w.key_number("modrm", 8)?;
+            opcode(
+                byte,
+                modrm,
+                w.key_number("address", 32)?,
+                w.key_number("next", 32)?,
+            )
+        }
+        "smint" => opcode(SMINT.into(), 0, 0, w.key_number("next", 32)?),
+        "rsm" => opcode(RSM.into(), 0, 0, 0),
+        "boundary" => boundary(&mut w)?,
+        "raw" => return raw(&words[1..]),
+        name => match place_in(&OPERAND_OPCODES, name) {
+            Some(place) => operand_opcode(place, &mut w)?,
+            None => return Err(format!("{} is no record", quoted(words[0]))),
+        },
+    };
+    w.done()?;
+    Ok(bytes)
+}
+
+fn registers(w: &mut Words) -> Result<Vec<u8>, String> {
+    let body = Body::default()
+        .word(w.key_number("eip", 32)?)
+        .word(w.key_number("eflags", 32)?)
+        .word(w.key_number("cr0", 32)?)
+        .word(w.key_number("dr7", 32)?);
+    let (selector, descriptor) = match w.key("cs") {
+        None => (0, [0; 8]),
+        Some(cs) => {
+            let (s, d) = cs
+                .split_once(':')
+                .ok_or("cs: not of the form SELECTOR:DESCRIPTOR")?;
+            (
+                parse_number(s, 16).map_err(|e| format!("cs: {e}"))?,
+                parse_descriptor(d)?,
+            )
+        }
+    };
+    Ok(body
+        .half(selector)
+        .bytes(&descriptor)
+        .byte(w.key_number("level", 8)?)
+        .byte(w.key_number("writable", 8)?)
+        .record(REGISTERS))
+}
+
+/// Eight bytes in the order of memory, as document 01 writes them.
+fn parse_descriptor(digits: &str) -> Result<[u8; 8], String> {
+    let wrong = || format!("the descriptor {} is not 16 hex digits", quoted(digits));
+    if digits.len() != 16 || !digits.bytes().all(|b| b.is_ascii_hexdigit()) {
+        return Err(wrong());
+    }
+    u64::from_str_radix(digits, 16)
+        .map(|d| d.to_be_bytes())
+        .map_err(|_| wrong())
+}
+
+fn opcode(byte: u32, modrm: u32, address: u32, next: u32) -> Vec<u8> {
+    Body::default()
+        .byte(byte)
+        .byte(modrm)
+        .word(address)
+        .word(next)
+        .record(OPCODE)
+}
+
+fn operand_opcode(place: usize, w: &mut Words) -> Result<Vec<u8>, String> {
+    let mut field = 0;
+    if place < 2 {
+        let name = w.next("segment")?;
+        let wrong = || format!("{} is no segment: {}", quoted(name), SEGMENTS.join(", "));
+        field = place_in(&SEGMENTS, name).ok_or_else(wrong)? as u32;
+    }
+    let address = w.next_number("address", 32)?;
+    let byte = u32::from(FIRST_OPERAND_OPCODE) + place as u32;
+    Ok(opcode(
+        byte,
+        u32::from(ADDRESS_ALONE) | field << 3,
+        address,
+        w.key_number("next", 32)?,
+    ))
+}
+
+fn boundary(w: &mut Words) -> Result<Vec<u8>, String> {
+    let body = Body::default()
+        .byte(w.key_number("smi", 8)?)
+        .word(w.key_number("current", 32)?);
+    let name = w.left.iter().position(|word| !word.contains('='));
+    let code = match (name, w.key("code")) {
+        (Some(_), Some(_)) => return Err("an interruption has a name or a code, not both".into()),
+        (None, Some(code)) => parse_number(code, 8).map_err(|e| format!("code: {e}"))?,
+        (None, None) => return Err("`boundary` lacks its interruption (none, input, ..)".into()),
+        (Some(place), None) => {
+            let name = w.left.remove(place);
+            let names = INTERRUPTIONS.join(", ");
+            let wrong = || format!("{} is no interruption: {names}", quoted(name));
+            place_in(&INTERRUPTIONS, name).ok_or_else(wrong)? as u32
+        }
+    };
+    Ok(body
+        .byte(code)
+        .half(w.key_number("port", 16)?)
+        .byte(w.key_number("size", 8)?)
+        .word(w.key_number("data", 32)?)
+        .word(w.key_number("index", 32)?)
+        .record(BOUNDARY))
+}
+
+fn raw(words: &[&str]) -> Result<Vec<u8>, String> {
+    if words.is_empty() {
+        return Err("`raw` lacks its bytes".into());
+    }
+    let byte = |word: &&str| match word.len() == 2 && word.bytes().all(|b| b.is_ascii_hexdigit()) {
+        true => u8::from_str_radix(word, 16).map_err(|e| e.to_string()),
+        false => Err(format!("{} is not two hex digits", quoted(word))),
+    };
+    words.iter().map(byte).collect()
+}
