@@ -7,7 +7,7 @@ use std::fs::File;
 use std::io::{self, Read};
 
 /// No text of a trace is longer.
-const TEXT_LIMIT: usize = 64 << 20;
+pub const TEXT_LIMIT: usize = 16 << 20;
 
 /// What the system says, without its number.
 pub fn reason_of(e: &io::Error) -> String {

@@ -44,7 +44,9 @@ fn image(path: Option<&OsString>) -> Result<Vec<u8>, String> {
     };
     if bytes.len() > MEMORY {
         let name = name_of(path.map_or(OsStr::new(""), |path| path));
-        return Err(format!("{name}: longer than the {MEMORY} bytes of a memory"));
+        return Err(format!(
+            "{name}: longer than the {MEMORY} bytes of a memory"
+        ));
     }
     bytes.resize(MEMORY, 0);
     Ok(bytes)
@@ -117,7 +119,9 @@ fn replay(path: &OsStr, o: &Options, start: &Memories, out: &mut Output) -> Resu
     let report = Report::new(&name, &text, &played);
     if o.lines {
         out.put(report.lines().as_bytes());
-        report.difference_lines().for_each(|line| eprintln!("{line}"));
+        report
+            .difference_lines()
+            .for_each(|line| eprintln!("{line}"));
     } else {
         match o.quiet {
             true => report.difference_lines().for_each(|line| out.line(&line)),
@@ -154,7 +158,10 @@ fn run(o: &Options, out: &mut Output) -> Result<i32, String> {
     }
     if several {
         let traces = o.traces.len();
-        out.line(&format!("{traces} traces: {}, {faults} at fault", all.words()));
+        out.line(&format!(
+            "{traces} traces: {}, {faults} at fault",
+            all.words()
+        ));
     }
     Ok(match (faults, all.differ) {
         (0, 0) => 0,

@@ -103,7 +103,11 @@ impl<'a> Report<'a> {
         let mut next = 0;
         for place in &played.places {
             let first = next;
-            while played.ends.get(next).is_some_and(|end| *end <= place.bytes.end) {
+            while played
+                .ends
+                .get(next)
+                .is_some_and(|end| *end <= place.bytes.end)
+            {
                 next += 1;
             }
             held.push(first..next);
@@ -165,7 +169,9 @@ impl<'a> Report<'a> {
     /// What came of a line in one place, where that is not what it expects.
     fn difference(&self, line: &Line, place: usize) -> Option<String> {
         let expected = line.expected?;
-        let mut answers = self.held[place].clone().map(|r| answer_of(self.played.events[r]));
+        let mut answers = self.held[place]
+            .clone()
+            .map(|r| answer_of(self.played.events[r]));
         let wanted = show_answer(expected);
         let reached = self.played.places[place].bytes.end <= self.played_to();
         match answers.clone().find(|answer| *answer != expected) {
@@ -347,8 +353,14 @@ impl<'a> Report<'a> {
     fn show_line(&self, out: &mut Output, line: &Line, place: usize) {
         let (code, comment) = (self.code(line.number), self.comment(line.number));
         let records = self.held.get(place).cloned().unwrap_or(0..0);
-        let bytes = self.played.places.get(place).map(|place| place.bytes.clone());
-        let reached = bytes.clone().is_some_and(|bytes| bytes.end <= self.played_to());
+        let bytes = self
+            .played
+            .places
+            .get(place)
+            .map(|place| place.bytes.clone());
+        let reached = bytes
+            .clone()
+            .is_some_and(|bytes| bytes.end <= self.played_to());
         let own = records.len() == 1 && Some(self.record_bytes(records.start)) == bytes;
         let outcome = match (own, reached) {
             (true, _) => self.outcome(line, records.start),
@@ -394,13 +406,22 @@ impl<'a> Report<'a> {
             Stop::End => String::new(),
             Stop::Limit => "stopped after 10,000 records, the most that are played".into(),
             Stop::Torn => format!("stopped at byte {at}: the trace ends within a record"),
-            Stop::Bad => format!("stopped at byte {at}: no kind of record has this number and length"),
+            Stop::Bad => {
+                format!("stopped at byte {at}: no kind of record has this number and length")
+            }
             Stop::Long => "not played: a trace has 65,536 bytes at most".into(),
         };
-        let expected = self.text.reason.filter(|(_, reason)| *reason != self.played.stop);
+        let expected = self
+            .text
+            .reason
+            .filter(|(_, reason)| *reason != self.played.stop);
         let differs = expected.map(|(_, reason)| format!("  DIFFERS, expected {}", reason.word()));
         if !why.is_empty() || differs.is_some() {
-            let why = if why.is_empty() { "stopped at the end".into() } else { why };
+            let why = if why.is_empty() {
+                "stopped at the end".into()
+            } else {
+                why
+            };
             out.line(&format!("{why}{}", differs.unwrap_or_default()));
         }
     }

@@ -103,7 +103,9 @@ fn text_of(line: &[u8]) -> Result<&str, String> {
     })?;
     let hidden = |c: &char| c.is_control() && *c != '\t' || matches!(c, '\u{2028}' | '\u{2029}');
     match text.chars().find(hidden).map(u32::from) {
-        Some(c) => Err(format!("the character {c:02X}h has no place in a text: take it out")),
+        Some(c) => Err(format!(
+            "the character {c:02X}h has no place in a text: take it out"
+        )),
         None => Ok(text),
     }
 }
@@ -186,7 +188,8 @@ impl Reading {
             [word] => Stop::named(word),
             _ => None,
         };
-        let stop = stop.ok_or("after `=>` alone stands the reason: end, limit, torn, bad or long")?;
+        let stop =
+            stop.ok_or("after `=>` alone stands the reason: end, limit, torn, bad or long")?;
         match self.open {
             Some(_) => Err("the reason stands inside a repeat".into()),
             None => {
@@ -279,7 +282,9 @@ fn answer(words: &[&str]) -> Result<Answer, String> {
     let digit = |b| matches!(b, b'0'..=b'9' | b'a'..=b'f');
     if value.len() != 8 || !value.bytes().all(digit) {
         let value = quoted(value);
-        return Err(format!("the value {value} is not eight lowercase hex digits"));
+        return Err(format!(
+            "the value {value} is not eight lowercase hex digits"
+        ));
     }
     let value = u32::from_str_radix(value, 16).map_err(|e| e.to_string())?;
     match number != 6 && value != 0 {

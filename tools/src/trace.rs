@@ -10,7 +10,7 @@ mod show;
 mod text;
 mod words;
 
-use files::{is_text, listed, name_of, read_text, read_trace};
+use files::{is_text, listed, name_of, read_text, read_trace, TEXT_LIMIT};
 use form::{framing, Stop, INPUT_LIMIT};
 use output::Output;
 use std::collections::BTreeMap;
@@ -46,7 +46,11 @@ fn expectation(text: &Text) -> Result<String, Vec<Problem>> {
         Some((_, reason)) if reason == stop => (0, None),
         Some((line, reason)) => (
             line,
-            Some(format!("the records stop with {}, not {}", stop.word(), reason.word())),
+            Some(format!(
+                "the records stop with {}, not {}",
+                stop.word(),
+                reason.word()
+            )),
         ),
         None => (
             text.source.len(),
@@ -101,6 +105,9 @@ fn run(command: &str, path: &OsString, out: &mut Output) -> Result<(), String> {
     let name = name_of(path);
     let bytes = read_trace(path)?;
     match command {
+        "text" if bytes.len() > TEXT_LIMIT => {
+            return Err(format!("{name}: longer than {TEXT_LIMIT} bytes"));
+        }
         "text" => {
             if !bytes.is_empty() && is_text(&bytes) {
                 eprintln!("{name}: looks like text; shown as the bytes of a trace");
@@ -110,7 +117,11 @@ fn run(command: &str, path: &OsString, out: &mut Output) -> Result<(), String> {
         "bytes" => text_in(&name, &bytes)?.pieces().for_each(|p| out.put(p)),
         _ => {
             let expected = expectation(&text_in(&name, &bytes)?);
-            out.put(expected.map_err(|problems| listed(&name, &problems))?.as_bytes());
+            out.put(
+                expected
+                    .map_err(|problems| listed(&name, &problems))?
+                    .as_bytes(),
+            );
         }
     }
     Ok(())

@@ -14,7 +14,10 @@ struct Random(u64);
 
 impl Random {
     fn below(&mut self, n: usize) -> usize {
-        self.0 = self.0.wrapping_mul(6_364_136_223_846_793_005).wrapping_add(1_442_695_040_888_963_407);
+        self.0 = self
+            .0
+            .wrapping_mul(6_364_136_223_846_793_005)
+            .wrapping_add(1_442_695_040_888_963_407);
         (self.0 >> 33) as usize % n
     }
 
@@ -57,13 +60,21 @@ fn fault(output: &Output, name: &str) -> Option<String> {
         String::from_utf8_lossy(&output.stderr),
     );
     let numbered = |line: &str| {
-        let rest = line.strip_prefix(name).and_then(|rest| rest.strip_prefix(':'));
+        let rest = line
+            .strip_prefix(name)
+            .and_then(|rest| rest.strip_prefix(':'));
         let number = rest.and_then(|rest| rest.split(':').next());
-        number.is_some_and(|number| number.parse::<usize>().is_ok()) || line.ends_with(" more errors")
+        number.is_some_and(|number| number.parse::<usize>().is_ok())
+            || line.ends_with(" more errors")
     };
     match output.status.code() {
         Some(0 | 1) if !told.is_empty() => Some(format!("said {told}")),
-        Some(0 | 1) if !said.lines().last().is_some_and(|line| line.starts_with(name)) => {
+        Some(0 | 1)
+            if !said
+                .lines()
+                .last()
+                .is_some_and(|line| line.starts_with(name)) =>
+        {
             Some("the last line is missing".into())
         }
         Some(0 | 1) => None,
@@ -142,7 +153,11 @@ fn spoilt(text: &str) -> Vec<(usize, String)> {
         let other = match words[..] {
             ["end"] => "bad".into(),
             ["limit" | "torn" | "bad" | "long"] => "end".into(),
-            ["6", value] => format!("6 {}{}", if value.starts_with('0') { '1' } else { '0' }, &value[1..]),
+            ["6", value] => format!(
+                "6 {}{}",
+                if value.starts_with('0') { '1' } else { '0' },
+                &value[1..]
+            ),
             ["12"] => "11".into(),
             [number] => (number.parse::<u32>().expect("an answer") + 1).to_string(),
             _ => panic!("line {}: {right}", index + 1),
@@ -197,7 +212,10 @@ fn main() {
             count += 1;
         }
     }
-    ok &= tell(&format!("{count} spoilt expectations: status 1, and the line is named"), &faults);
+    ok &= tell(
+        &format!("{count} spoilt expectations: status 1, and the line is named"),
+        &faults,
+    );
 
     let mut faults = Vec::new();
     let mut lines_seen = 0;
@@ -214,7 +232,9 @@ fn main() {
         faults.push(format!("only {lines_seen} of them were played"));
     }
     ok &= tell(
-        &format!("{RANDOM} random byte strings: no panic, text and back, the proved program's lines"),
+        &format!(
+            "{RANDOM} random byte strings: no panic, text and back, the proved program's lines"
+        ),
         &faults,
     );
 
@@ -234,6 +254,9 @@ fn main() {
     if refused < DAMAGED / 4 || refused == DAMAGED {
         faults.push(format!("{refused} of them were refused"));
     }
-    ok &= tell(&format!("{DAMAGED} damaged texts: no panic, and each error names a line"), &faults);
+    ok &= tell(
+        &format!("{DAMAGED} damaged texts: no panic, and each error names a line"),
+        &faults,
+    );
     exit(i32::from(!ok));
 }

@@ -40,7 +40,9 @@ pub fn parse_number(word: &str, bits: u32) -> Result<u32, String> {
     // from_str_radix alone would take a sign too.
     if digits.is_empty() || !digits.chars().all(|c| c.is_digit(radix)) {
         let word = quoted(word);
-        return Err(format!("{word} is no number: write 34, or hex as 22h or 0x22"));
+        return Err(format!(
+            "{word} is no number: write 34, or hex as 22h or 0x22"
+        ));
     }
     match u64::from_str_radix(digits, radix) {
         Ok(n) if n < 1u64 << bits => Ok(n as u32),
@@ -50,7 +52,9 @@ pub fn parse_number(word: &str, bits: u32) -> Result<u32, String> {
 
 /// Which of the names a word is, in small letters or in capitals.
 fn place_in(names: &[&str], word: &str) -> Option<usize> {
-    names.iter().position(|name| name.eq_ignore_ascii_case(word))
+    names
+        .iter()
+        .position(|name| name.eq_ignore_ascii_case(word))
 }
 
 /// The words after a record's name, taken one by one: first those by place, then those by key.
