@@ -1,8 +1,13 @@
-//! Standard output whose failures are errors.
+//! Standard output, whose failures are errors, and standard error, whose failures nobody hears.
 
 use crate::files::reason_of;
 use std::io::{self, BufWriter, ErrorKind, Stdout, Write};
 use std::process::exit;
+
+/// A line to standard error.
+pub fn tell(line: &str) {
+    let _ = writeln!(io::stderr(), "{line}");
+}
 
 pub struct Output {
     program: &'static str,
@@ -21,7 +26,11 @@ impl Output {
     fn check(&self, done: io::Result<()>) {
         if let Err(e) = done {
             if e.kind() != ErrorKind::BrokenPipe {
-                eprintln!("{}: standard output: {}", self.program, reason_of(&e));
+                tell(&format!(
+                    "{}: standard output: {}",
+                    self.program,
+                    reason_of(&e)
+                ));
             }
             exit(2);
         }

@@ -2,10 +2,12 @@
 
 #![allow(dead_code)] // the modules are those of tools/trace too
 
+mod differences;
 mod files;
 mod form;
 mod options;
 mod output;
+mod played;
 mod report;
 #[path = "../../include/rostuvlad.rs"]
 mod rostuvlad;
@@ -13,12 +15,13 @@ mod show;
 mod text;
 mod words;
 
+use differences::{differences, Tally};
 use files::{is_text, name_of, read_most, read_text, read_trace, reason_of};
-use form::{framing, Stop, INPUT_LIMIT};
+use form::INPUT_LIMIT;
 use options::{Options, Request};
-use output::Output;
-use report::{Played, Report, Tally};
-use rostuvlad::Reason;
+use output::{tell, Output};
+use played::{play, Memories};
+use report::Report;
 use std::ffi::{OsStr, OsString};
 use std::fs;
 use std::process::exit;
@@ -29,12 +32,6 @@ const HELP: &str = include_str!("replay.help");
 const MEMORY: usize = 65_536;
 const _: () = assert!(MEMORY == rostuvlad::MANAGEMENT_SIZE && MEMORY <= rostuvlad::LARGEST_MAIN);
 const _: () = assert!(form::RECORD_LIMIT == rostuvlad::RECORD_LIMIT);
-
-#[derive(Clone)]
-struct Memories {
-    main: Vec<u8>,
-    management: Vec<u8>,
-}
 
 /// A memory at the start: an image, filled up with zeros, or zeros alone.
 fn image(path: Option<&OsString>) -> Result<Vec<u8>, String> {
@@ -74,41 +71,6 @@ fn text_of(path: &OsStr) -> Result<Option<Text>, String> {
     }
 }
 
-fn stop_of(reason: Reason) -> Stop {
-    match reason {
-        Reason::End => Stop::End,
-        Reason::Limit => Stop::Limit,
-        Reason::Torn => Stop::Torn,
-        Reason::Bad => Stop::Bad,
-    }
-}
-
-/// Plays a trace. Which bytes are a record's is told by the trace's form, and has to be what the
-/// library found.
-fn play(text: Option<&Text>, memories: &mut Memories) -> Result<Played, String> {
-    let Some((bytes, places)) = text.and_then(|text| text.placed(INPUT_LIMIT)) else {
-        return Ok(Played {
-            bytes: Vec::new(),
-            places: Vec::new(),
-            ends: Vec::new(),
-            events: Vec::new(),
-            stop: Stop::Long,
-        });
-    };
-    let replay = rostuvlad::replay(&bytes, &mut memories.main, &mut memories.management);
-    let (ends, stop) = framing(&bytes);
-    if replay.events.len() != ends.len() || stop_of(replay.reason) != stop {
-        return Err("the tool and the library read the trace differently: please report it".into());
-    }
-    Ok(Played {
-        bytes,
-        places,
-        ends,
-        events: replay.events,
-        stop,
-    })
-}
-
 /// Replays a trace, and tells how many records it has, how much it expects and how much differs.
 fn replay(path: &OsStr, o: &Options, start: &Memories, out: &mut Output) -> Result<Tally, String> {
     let name = name_of(path);
@@ -116,23 +78,33 @@ fn replay(path: &OsStr, o: &Options, start: &Memories, out: &mut Output) -> Resu
     let mut memories = start.clone();
     let played = play(text.as_ref(), &mut memories)?;
     let text = text.unwrap_or_default();
-    let report = Report::new(&name, &text, &played);
+    let differences = differences(&text, &played);
+    let tally = Tally::of(&text, &played, &differences);
+    let differing = differences
+        .iter()
+        .map(|d| format!("{name}:{}: {}", d.line, d.what));
+    let reason = played.stop.word();
     if o.lines {
-        out.put(report.lines().as_bytes());
-        report
-            .difference_lines()
-            .for_each(|line| eprintln!("{line}"));
+        for (answer, value) in played.records().map(|record| played.answer(record)) {
+            out.line(&format!("{answer} {value:08x}"));
+        }
+        out.line(reason);
+        differing.for_each(|line| tell(&line));
     } else {
         match o.quiet {
-            true => report.difference_lines().for_each(|line| out.line(&line)),
-            false => report.show(out),
+            true => differing.for_each(|line| out.line(&line)),
+            false => Report {
+                text: &text,
+                played: &played,
+                out,
+            }
+            .show(),
         }
-        let (tally, reason) = (report.tally(), played.stop.word());
         out.line(&format!("{name}: {}, {reason}", tally.words()));
     }
     save(o.save_main.as_ref(), &memories.main)?;
     save(o.save_management.as_ref(), &memories.management)?;
-    Ok(report.tally())
+    Ok(tally)
 }
 
 fn run(o: &Options, out: &mut Output) -> Result<i32, String> {
@@ -151,7 +123,7 @@ fn run(o: &Options, out: &mut Output) -> Result<i32, String> {
             Err(problem) => {
                 // What was shown so far comes first where both go to one place.
                 out.close();
-                eprintln!("{problem}");
+                tell(&problem);
                 faults += 1;
             }
         }
@@ -182,7 +154,7 @@ fn main() {
     };
     out.close();
     exit(done.unwrap_or_else(|problem| {
-        eprintln!("{problem}");
+        tell(&problem);
         2
     }))
 }

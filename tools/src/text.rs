@@ -36,6 +36,20 @@ pub struct Block {
     pub turns: usize,
     /// The line of `repeat`, and that of `end-repeat`.
     pub repeat: Option<(usize, usize)>,
+    /// How many places come before it.
+    first_place: usize,
+}
+
+impl Block {
+    /// The place of one of its lines in a turn.
+    pub fn place(&self, turn: usize, line: usize) -> usize {
+        self.first_place + turn * self.lines.len() + (line - self.lines.start)
+    }
+
+    /// The place that follows it.
+    fn next_place(&self) -> usize {
+        self.first_place + self.turns * self.lines.len()
+    }
 }
 
 #[derive(Default)]
@@ -55,6 +69,16 @@ pub struct Place {
 }
 
 impl Text {
+    /// A line without its expectation and its comment.
+    pub fn code(&self, number: usize) -> &str {
+        let (code, _) = without_comment(&self.source[number - 1]);
+        code.split("=>").next().unwrap_or("").trim_end()
+    }
+
+    pub fn comment(&self, number: usize) -> Option<&str> {
+        without_comment(&self.source[number - 1]).1
+    }
+
     /// Every line in the order of its bytes, as often as it stands there.
     fn unrolled(&self) -> impl Iterator<Item = usize> + '_ {
         self.blocks
@@ -85,6 +109,20 @@ impl Text {
     }
 }
 
+/// The records that end in each place, by where each of them ends.
+pub fn ending(places: &[Place], ends: &[usize]) -> Vec<Range<usize>> {
+    let mut next = 0;
+    let of_place = |place: &Place| {
+        let first = next;
+        next += ends[first..]
+            .iter()
+            .take_while(|end| **end <= place.bytes.end)
+            .count();
+        first..next
+    };
+    places.iter().map(of_place).collect()
+}
+
 /// The file's lines, without a byte order mark.
 fn lines_of(bytes: &[u8]) -> impl Iterator<Item = &[u8]> {
     let bytes = bytes.strip_prefix(b"\xEF\xBB\xBF").unwrap_or(bytes);
@@ -111,7 +149,7 @@ fn text_of(line: &[u8]) -> Result<&str, String> {
 }
 
 /// The text before a comment, and the comment.
-pub fn without_comment(line: &str) -> (&str, Option<&str>) {
+fn without_comment(line: &str) -> (&str, Option<&str>) {
     match line.split_once('#') {
         Some((code, comment)) => (code, Some(comment)),
         None => (line, None),
@@ -133,7 +171,7 @@ pub fn parse(bytes: &[u8]) -> Result<Text, Vec<Problem>> {
         problems.sort_by_key(|p| p.line);
         return Err(problems);
     }
-    reading.close_plain();
+    reading.close(1, None);
     Ok(reading.text)
 }
 
@@ -149,8 +187,6 @@ struct Open {
 struct Reading {
     text: Text,
     open: Option<Open>,
-    /// The first line that no block has yet.
-    first: usize,
 }
 
 impl Reading {
@@ -203,7 +239,7 @@ impl Reading {
         if let Some(open) = &self.open {
             return Err(format!("a repeat is open since line {}", open.line));
         }
-        self.close_plain();
+        self.close(1, None);
         let turns = match words[1..] {
             [count] => parse_number(count, 16),
             _ => Err("`repeat` takes one number".into()),
@@ -221,13 +257,7 @@ impl Reading {
 
     fn end_repeat(&mut self, number: usize, words: &[&str]) -> Result<(), String> {
         let open = self.open.take().ok_or("no repeat is open")?;
-        let lines = self.first..self.text.lines.len();
-        self.first = lines.end;
-        self.text.blocks.push(Block {
-            lines,
-            turns: open.turns,
-            repeat: Some((open.line, number)),
-        });
+        self.close(open.turns, Some((open.line, number)));
         match words {
             [_] if !open.holds => Err("this repeat holds no record".into()),
             [_] => Ok(()),
@@ -235,15 +265,18 @@ impl Reading {
         }
     }
 
-    /// The lines so far that stand outside of any repeat are a block.
-    fn close_plain(&mut self) {
-        let lines = self.first..self.text.lines.len();
-        self.first = lines.end;
+    /// The lines since the last block are one, if there are any.
+    fn close(&mut self, turns: usize, repeat: Option<(usize, usize)>) {
+        let blocks = &mut self.text.blocks;
+        let first = blocks.last().map_or(0, |block| block.lines.end);
+        let lines = first..self.text.lines.len();
         if !lines.is_empty() {
-            self.text.blocks.push(Block {
+            let first_place = blocks.last().map_or(0, Block::next_place);
+            blocks.push(Block {
                 lines,
-                turns: 1,
-                repeat: None,
+                turns,
+                repeat,
+                first_place,
             });
         }
     }

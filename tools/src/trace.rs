@@ -12,16 +12,16 @@ mod words;
 
 use files::{is_text, listed, name_of, read_text, read_trace, TEXT_LIMIT};
 use form::{framing, Stop, INPUT_LIMIT};
-use output::Output;
+use output::{tell, Output};
 use std::collections::BTreeMap;
 use std::ffi::OsString;
 use std::process::exit;
-use text::{Place, Problem, Text};
+use text::{ending, Place, Problem, Text};
 
 const HELP: &str = include_str!("trace.help");
 
 fn fail(problem: &str) -> ! {
-    eprintln!("{problem}");
+    tell(problem);
     exit(2)
 }
 
@@ -42,22 +42,18 @@ fn expectation(text: &Text) -> Result<String, Vec<Problem>> {
         Some((bytes, places)) => played(text, &bytes, &places),
         None => (String::new(), Stop::Long, unplayed(text)),
     };
-    let (line, what) = match text.reason {
-        Some((_, reason)) if reason == stop => (0, None),
-        Some((line, reason)) => (
-            line,
-            Some(format!(
-                "the records stop with {}, not {}",
-                stop.word(),
-                reason.word()
-            )),
-        ),
-        None => (
-            text.source.len(),
-            Some("the last line, `=> end` or another reason, is missing".into()),
-        ),
-    };
-    problems.extend(what.map(|what| Problem::at(line, what)));
+    match text.reason {
+        Some((_, reason)) if reason == stop => (),
+        Some((line, reason)) => {
+            let (stop, reason) = (stop.word(), reason.word());
+            let what = format!("the records stop with {stop}, not {reason}");
+            problems.push(Problem::at(line, what));
+        }
+        None => {
+            let what = "the last line, `=> end` or another reason, is missing";
+            problems.push(Problem::at(text.source.len(), what));
+        }
+    }
     match problems.is_empty() {
         true => Ok(format!("{out}{}\n", stop.word())),
         false => Err(problems),
@@ -76,24 +72,22 @@ fn unplayed(text: &Text) -> Vec<Problem> {
 
 fn played(text: &Text, bytes: &[u8], places: &[Place]) -> (String, Stop, Vec<Problem>) {
     let (ends, stop) = framing(bytes);
-    let mut ends = ends.into_iter().peekable();
     let mut out = String::new();
     // By line, since a line of a repeat is at fault once and not in each turn.
     let mut problems = BTreeMap::new();
-    for place in places {
+    for (place, records) in places.iter().zip(ending(places, &ends)) {
         let line = &text.lines[place.line];
-        let mut none = true;
-        while ends.next_if(|end| *end <= place.bytes.end).is_some() {
-            none = false;
-            match line.expected {
-                Some((answer, value)) => out.push_str(&format!("{answer} {value:08x}\n")),
-                None => {
-                    problems.insert(line.number, "a record ends here, and nothing is expected");
-                }
+        match (line.expected, records.is_empty()) {
+            (Some((answer, value)), false) => {
+                out.push_str(&format!("{answer} {value:08x}\n").repeat(records.len()));
             }
-        }
-        if none && line.expected.is_some() {
-            problems.insert(line.number, UNPLAYED);
+            (Some(_), true) => {
+                problems.insert(line.number, UNPLAYED);
+            }
+            (None, false) => {
+                problems.insert(line.number, "a record ends here, and nothing is expected");
+            }
+            (None, true) => (),
         }
     }
     let problems = problems.into_iter();
@@ -110,7 +104,9 @@ fn run(command: &str, path: &OsString, out: &mut Output) -> Result<(), String> {
         }
         "text" => {
             if !bytes.is_empty() && is_text(&bytes) {
-                eprintln!("{name}: looks like text; shown as the bytes of a trace");
+                tell(&format!(
+                    "{name}: looks like text; shown as the bytes of a trace"
+                ));
             }
             out.put(show::show_trace(&bytes).as_bytes());
         }
