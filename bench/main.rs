@@ -2,7 +2,7 @@
 // its own, since a processor learns one that is played again and again by heart. Both memories are cleared before each run, outside the
 // time. Prints the best and the median of as many runs as the argument says, 3,000 without one.
 //
-//   rt staticlib export && rustc -O bench/main.rs -L target/staticlib -l static=export -o target/replay-bench && target/replay-bench
+//   tools/build library && rustc -O bench/main.rs -L target/staticlib -l static=export -o target/replay-bench && target/replay-bench
 use std::time::Instant;
 
 #[path = "../include/rostuvlad.rs"]

@@ -1,5 +1,5 @@
 /*
- * The proved player of 01 for C and C++. docs/LIBRARY.md says how to link it, and what is proved.
+ * The proved player of 01 for C (C99) and C++. docs/LIBRARY.md says how to link it, and what is proved.
  */
 #ifndef ROSTUVLAD_H
 #define ROSTUVLAD_H

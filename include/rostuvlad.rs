@@ -68,7 +68,7 @@ pub struct Replay {
 }
 
 unsafe extern "C" {
-    // A slice passes as a pointer and a length, an array or a number as a pointer.
+    // A slice passes as a pointer and a length, a reference to an array or a number as a pointer.
     fn rostuvlad_replay(
         trace: *const u8,
         trace_len: usize,

@@ -44,18 +44,31 @@ pub fn read_trace(path: &OsStr) -> Result<Vec<u8>, String> {
     read_most(path, TEXT_LIMIT)
 }
 
-/// A text that an editor saved in two bytes a character, by its byte order mark.
-fn is_utf_16(bytes: &[u8]) -> bool {
-    matches!(bytes, [0xFF, 0xFE, _, 0, ..] | [0xFE, 0xFF, 0, ..])
+fn is_control(byte: u8) -> bool {
+    byte < b' ' && !matches!(byte, b'\t' | b'\n' | b'\r')
 }
 
-/// Whether the bytes are a trace's text. A binary trace begins with a record, or is full of control
-/// characters: each record has two at the least, and is 32 bytes long at most. A text that was
-/// damaged is still taken for a text, so that its lines are judged.
+/// A text that an editor saved in two bytes a character: by its byte order mark, or since every
+/// other byte is 0.
+fn is_utf_16(bytes: &[u8]) -> bool {
+    let head = &bytes[..bytes.len().min(64)];
+    let all = |is: fn(&[u8]) -> bool| head.len() >= 4 && head.chunks_exact(2).all(is);
+    bytes.starts_with(b"\xFF\xFE")
+        || bytes.starts_with(b"\xFE\xFF")
+        || all(|pair| pair[1] == 0 && !is_control(pair[0]))
+        || all(|pair| pair[0] == 0 && !is_control(pair[1]))
+}
+
+/// Whether the bytes are a trace's text. A binary trace begins with a record, or one byte in four
+/// at the least is none that a text has. A text that was damaged is still taken for a text, so that
+/// its lines are judged.
 pub fn is_text(bytes: &[u8]) -> bool {
-    let strange = |b: &&u8| matches!(b, 0..=8 | 11 | 12 | 14..=31);
-    let few = bytes.iter().filter(strange).count() * 16 <= bytes.len();
-    first_record(bytes).is_err() && (few || is_utf_16(bytes))
+    let strange = |part: std::str::Utf8Chunk| {
+        let controls = part.valid().bytes().filter(|byte| is_control(*byte));
+        controls.count() + part.invalid().len()
+    };
+    let count: usize = bytes.utf8_chunks().map(strange).sum();
+    first_record(bytes).is_err() && (is_utf_16(bytes) || count * 4 < bytes.len().max(1))
 }
 
 /// A text's lines, or what is wrong with it.

@@ -89,6 +89,9 @@ pub fn parsed(mut words: impl Iterator<Item = OsString>) -> Result<Request, Stri
                 let file = given.or_else(|| words.next());
                 let file = file.filter(|file| !file.is_empty());
                 let file = file.ok_or_else(|| format!("{option} lacks its file"))?;
+                if file == "-" {
+                    return Err(format!("{option} takes a file, and not -"));
+                }
                 if kept.replace(file).is_some() {
                     return Err(format!("{option} is given twice"));
                 }

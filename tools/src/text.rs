@@ -204,6 +204,9 @@ impl Reading {
         if self.text.reason.is_some() {
             return Err("nothing may follow the reason for stopping".into());
         }
+        if words.contains(&"->") {
+            return Err("an expectation stands behind `=>`, as `=> 6 00000041`".into());
+        }
         let Some(name) = words.first().map(|w| w.to_ascii_lowercase()) else {
             return self.reason(number, &right.unwrap_or_default());
         };
@@ -307,7 +310,7 @@ fn answer(words: &[&str]) -> Result<Answer, String> {
     let (number, value) = match words {
         [number] => (*number, "00000000"),
         [number, value] => (*number, *value),
-        _ => return Err("after `=>` stand the answer's number and its value".into()),
+        _ => return Err("after `=>` stands the answer as it is printed: `0`, `6 00000041`".into()),
     };
     let number = (0..=12)
         .find(|n: &u8| n.to_string() == number)
