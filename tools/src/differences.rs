@@ -3,6 +3,7 @@
 use crate::played::{Outcome, Played};
 use crate::rostuvlad::VALUE;
 use crate::text::{Answer, Block, Line, Text};
+use crate::words::shortened;
 use std::ops::Range;
 
 /// What the answers are called, by their numbers (docs/MODEL.md).
@@ -38,11 +39,30 @@ pub fn without_record(outcome: &Outcome) -> &'static str {
     }
 }
 
-/// An expectation that was not met, in so many turns of its line.
-pub struct Difference {
-    pub line: usize,
-    pub count: usize,
-    pub what: String,
+/// An expectation that was not met, in some turns of its line.
+pub struct Difference<'a> {
+    block: &'a Block,
+    line: &'a Line,
+    turns: Range<usize>,
+    came: String,
+}
+
+impl Difference<'_> {
+    pub fn show(&self, text: &Text) -> String {
+        let Line {
+            number, expected, ..
+        } = self.line;
+        let turns = match self.block.repeat {
+            Some(_) => format!("{}: ", show_turns(&self.turns, self.block.turns)),
+            None => String::new(),
+        };
+        let code = shortened(text.code(*number), 120);
+        let expected = expected.map(show_answer).unwrap_or_default();
+        format!(
+            "{number}: {turns}{code}: {}, expected {expected}",
+            self.came
+        )
+    }
 }
 
 /// How many of a block's turns were played, the last one perhaps in part.
@@ -51,52 +71,34 @@ pub fn played_turns(block: &Block, played: &Played) -> usize {
     (0..block.turns).take_while(is_begun).count()
 }
 
-/// All that differs, in the order of the trace.
-pub fn differences(text: &Text, played: &Played) -> Vec<Difference> {
+/// The lines that differ, in the order of the trace.
+pub fn differences<'a>(text: &'a Text, played: &Played) -> Vec<Difference<'a>> {
     let mut all = Vec::new();
     for block in &text.blocks {
-        let turns = played_turns(block, played);
-        for turn in 0..turns {
-            let in_turn = |line| difference(text, played, block, turn..turn + 1, line);
-            all.extend(block.lines.clone().filter_map(in_turn));
-        }
-        if turns < block.turns {
-            let unplayed = |line| difference(text, played, block, turns..block.turns, line);
-            all.extend(block.lines.clone().filter_map(unplayed));
+        let begun = played_turns(block, played);
+        let one_by_one = (0..begun).map(|turn| turn..turn + 1);
+        let unplayed = (begun < block.turns).then_some(begun..block.turns);
+        for turns in one_by_one.chain(unplayed) {
+            for index in block.lines.clone() {
+                let line = &text.lines[index];
+                let outcome = played.outcome(block.place(turns.start, index));
+                all.extend(unmet(line, &outcome, played).map(|came| Difference {
+                    block,
+                    line,
+                    turns: turns.clone(),
+                    came,
+                }));
+            }
         }
     }
-    all.extend(text.reason.and_then(|(line, reason)| {
-        let (stop, reason) = (played.stop.word(), reason.word());
-        (stop != reason).then(|| Difference {
-            line,
-            count: 1,
-            what: format!("stopped with {stop}, expected {reason}"),
-        })
-    }));
     all
 }
 
-/// What differs in a line, in a turn or in turns that were not played.
-fn difference(
-    text: &Text,
-    played: &Played,
-    block: &Block,
-    turns: Range<usize>,
-    line: usize,
-) -> Option<Difference> {
-    let outcome = played.outcome(block.place(turns.start, line));
-    let line = &text.lines[line];
-    let came = unmet(line, &outcome, played)?;
-    let expected = show_answer(line.expected?);
-    let code = text.code(line.number);
-    let turn = block.repeat.map_or(String::new(), |_| {
-        format!("{}: ", show_turns(&turns, block.turns))
-    });
-    Some(Difference {
-        line: line.number,
-        count: turns.len(),
-        what: format!("{turn}{code}: {came}, expected {expected}"),
-    })
+/// What differs in the reason for stopping, if it does.
+pub fn other_reason(text: &Text, played: &Played) -> Option<String> {
+    let (line, reason) = text.reason?;
+    let (stop, reason) = (played.stop.word(), reason.word());
+    (stop != reason).then(|| format!("{line}: stopped with {stop}, expected {reason}"))
 }
 
 /// What came of a line, where that is not what it expects.
@@ -131,10 +133,11 @@ impl Tally {
             block.turns * lines.iter().filter(|line| line.expected.is_some()).count()
         };
         let of_lines: usize = text.blocks.iter().map(of_block).sum();
+        let in_lines: usize = differences.iter().map(|d| d.turns.len()).sum();
         Tally {
             records: played.records().len(),
             expectations: of_lines + usize::from(text.reason.is_some()),
-            differ: differences.iter().map(|d| d.count).sum(),
+            differ: in_lines + usize::from(other_reason(text, played).is_some()),
         }
     }
 

@@ -5,6 +5,7 @@ use crate::text::{parse, Problem, Text};
 use std::ffi::OsStr;
 use std::fs::File;
 use std::io::{self, Read};
+use std::path::{Path, PathBuf};
 
 /// No text of a trace is longer.
 pub const TEXT_LIMIT: usize = 16 << 20;
@@ -18,12 +19,30 @@ pub fn reason_of(e: &io::Error) -> String {
     }
 }
 
-/// A file's name for messages; `-` is standard input.
+/// A file's name for messages, on one line; `-` is standard input.
 pub fn name_of(path: &OsStr) -> String {
-    match path == "-" {
-        true => "standard input".into(),
-        false => path.to_string_lossy().escape_debug().collect(),
+    let shown = |c: char| match c.is_control() {
+        true => c.escape_default().to_string(),
+        false => c.to_string(),
+    };
+    match path.to_string_lossy().as_ref() {
+        "-" => "standard input".into(),
+        "" => "(no name)".into(),
+        name => name.chars().map(shown).collect(),
     }
+}
+
+/// Where a file is or would be, however it is named.
+pub fn place_of(path: &OsStr) -> PathBuf {
+    let path = Path::new(path);
+    let folder = match path.parent() {
+        Some(folder) if folder != Path::new("") => folder,
+        _ => Path::new("."),
+    };
+    path.canonicalize().unwrap_or_else(|_| {
+        let folder = folder.canonicalize().unwrap_or_else(|_| folder.into());
+        folder.join(path.file_name().unwrap_or_default())
+    })
 }
 
 /// A file's bytes, cut after one more than this.
@@ -59,16 +78,28 @@ fn is_utf_16(bytes: &[u8]) -> bool {
         || all(|pair| pair[0] == 0 && !is_control(pair[1]))
 }
 
-/// Whether the bytes are a trace's text. A binary trace begins with a record, or one byte in four
-/// at the least is none that a text has. A text that was damaged is still taken for a text, so that
-/// its lines are judged.
+/// Whether an expectation stands somewhere, also in characters of several bytes.
+fn expects(bytes: &[u8]) -> bool {
+    let mut filled = bytes.iter().filter(|byte| **byte != 0).peekable();
+    while let Some(byte) = filled.next() {
+        if *byte == b'=' && filled.peek() == Some(&&b'>') {
+            return true;
+        }
+    }
+    false
+}
+
+/// Whether the bytes are a trace's text. A binary trace begins with a record, or it has no
+/// expectation and one byte in four at the least is none that a text has. A text that was damaged is
+/// still taken for a text, so that its lines are judged.
 pub fn is_text(bytes: &[u8]) -> bool {
     let strange = |part: std::str::Utf8Chunk| {
         let controls = part.valid().bytes().filter(|byte| is_control(*byte));
         controls.count() + part.invalid().len()
     };
     let count: usize = bytes.utf8_chunks().map(strange).sum();
-    first_record(bytes).is_err() && (is_utf_16(bytes) || count * 4 < bytes.len().max(1))
+    let few = count * 4 < bytes.len().max(1);
+    first_record(bytes).is_err() && (few || is_utf_16(bytes) || expects(bytes))
 }
 
 /// A text's lines, or what is wrong with it.

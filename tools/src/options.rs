@@ -1,7 +1,9 @@
 //! The words after tools/replay.
 
+use crate::files::place_of;
 use std::ffi::{OsStr, OsString};
 use std::os::unix::ffi::OsStrExt;
+use std::path::PathBuf;
 
 #[derive(Default)]
 pub struct Options {
@@ -46,8 +48,18 @@ impl Options {
         if saves.iter().any(|save| save.is_some()) && !one {
             return Err("--save-main and --save-management take one trace".into());
         }
-        if self.save_main.is_some() && self.save_main == self.save_management {
-            return Err("--save-main and --save-management name the same file".into());
+        let places: Vec<PathBuf> = saves.into_iter().flatten().map(|f| place_of(f)).collect();
+        if let [main, management] = &places[..] {
+            if main == management {
+                return Err("--save-main and --save-management name the same file".into());
+            }
+        }
+        if self
+            .traces
+            .iter()
+            .any(|trace| places.contains(&place_of(trace)))
+        {
+            return Err("an image would be saved over the trace".into());
         }
         Ok(Request::Replay(self))
     }

@@ -15,8 +15,8 @@ mod show;
 mod text;
 mod words;
 
-use differences::{differences, Tally};
-use files::{is_text, name_of, read_most, read_text, read_trace, reason_of};
+use differences::{differences, other_reason, Tally};
+use files::{is_text, name_of, place_of, read_most, read_text, read_trace, reason_of};
 use form::INPUT_LIMIT;
 use options::{Options, Request};
 use output::{tell, Output};
@@ -49,13 +49,21 @@ fn image(path: Option<&OsString>) -> Result<Vec<u8>, String> {
     Ok(bytes)
 }
 
+/// Writes an image beside its file and puts it in its place when it is whole, so that a full disk
+/// leaves what was there. A device or a pipe is written as it is.
 fn save(path: Option<&OsString>, bytes: &[u8]) -> Result<(), String> {
-    match path {
-        Some(path) => {
-            fs::write(path, bytes).map_err(|e| format!("{}: {}", name_of(path), reason_of(&e)))
+    let Some(path) = path else { return Ok(()) };
+    let written = match fs::metadata(path) {
+        Ok(found) if !found.is_file() => fs::write(path, bytes),
+        _ => {
+            let path = place_of(path);
+            let mut part = path.clone().into_os_string();
+            part.push(format!(".{}.part", std::process::id()));
+            let written = fs::write(&part, bytes).and_then(|()| fs::rename(&part, &path));
+            written.inspect_err(|_| drop(fs::remove_file(&part)))
         }
-        None => Ok(()),
-    }
+    };
+    written.map_err(|e| format!("{}: {}", name_of(path), reason_of(&e)))
 }
 
 /// A trace as text, whatever form it has: that of a binary one is what `tools/trace text` shows.
@@ -80,9 +88,9 @@ fn replay(path: &OsStr, o: &Options, start: &Memories, out: &mut Output) -> Resu
     let text = text.unwrap_or_default();
     let differences = differences(&text, &played);
     let tally = Tally::of(&text, &played, &differences);
-    let differing = differences
-        .iter()
-        .map(|d| format!("{name}:{}: {}", d.line, d.what));
+    let lines = differences.iter().map(|difference| difference.show(&text));
+    let lines = lines.chain(other_reason(&text, &played));
+    let differing = lines.map(|line| format!("{name}:{line}"));
     let reason = played.stop.word();
     if o.lines {
         for (answer, value) in played.records().map(|record| played.answer(record)) {

@@ -139,13 +139,19 @@ fn text_of(line: &[u8]) -> Result<&str, String> {
         let byte = line[e.valid_up_to()];
         format!("the byte {byte:02X}h is not UTF-8: save the file as UTF-8")
     })?;
-    let hidden = |c: &char| c.is_control() && *c != '\t' || matches!(c, '\u{2028}' | '\u{2029}');
-    match text.chars().find(hidden).map(u32::from) {
+    match text.chars().find(|c| is_hidden(*c)).map(u32::from) {
         Some(c) => Err(format!(
-            "the character {c:02X}h has no place in a text: take it out"
+            "the character U+{c:04X} has no place in a text: take it out"
         )),
         None => Ok(text),
     }
+}
+
+/// Controls other than the tab, separators of lines, and what has no width or turns the direction.
+fn is_hidden(c: char) -> bool {
+    c.is_control() && c != '\t'
+        || matches!(c, '\u{AD}' | '\u{200B}'..='\u{200F}' | '\u{2028}'..='\u{202E}')
+        || matches!(c, '\u{2060}'..='\u{2069}' | '\u{FEFF}')
 }
 
 /// The text before a comment, and the comment.

@@ -99,16 +99,19 @@ fn run(command: &str, path: &OsString, out: &mut Output) -> Result<(), String> {
     let name = name_of(path);
     let bytes = read_trace(path)?;
     match command {
-        "text" if bytes.len() > TEXT_LIMIT => {
-            return Err(format!("{name}: longer than {TEXT_LIMIT} bytes"));
-        }
         "text" => {
             if !bytes.is_empty() && is_text(&bytes) {
                 tell(&format!(
                     "{name}: looks like text; shown as the bytes of a trace"
                 ));
             }
-            out.put(show::show_trace(&bytes).as_bytes());
+            let text = show::show_trace(&bytes);
+            if bytes.len().max(text.len()) > TEXT_LIMIT {
+                return Err(format!(
+                    "{name}: it or its text is longer than {TEXT_LIMIT} bytes"
+                ));
+            }
+            out.put(text.as_bytes());
         }
         "bytes" => text_in(&name, &bytes)?.pieces().for_each(|p| out.put(p)),
         _ => {

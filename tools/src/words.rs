@@ -20,14 +20,18 @@ pub const RSM: u8 = 0xAA;
 /// ModRM of a mnemonic: an address alone (mod 0, r/m 5); the middle field is added.
 pub const ADDRESS_ALONE: u8 = 0x05;
 
-/// A word in a message: whatever a file holds, it stays on its line and readable.
-pub fn quoted(word: &str) -> String {
-    const MOST: usize = 40;
-    let mut cut: String = word.chars().take(MOST).collect();
-    if cut.len() < word.len() {
-        cut.push_str("..");
+/// A text cut to so many characters.
+pub fn shortened(text: &str, most: usize) -> String {
+    let cut: String = text.chars().take(most).collect();
+    match cut.len() < text.len() {
+        true => format!("{cut}.."),
+        false => cut,
     }
-    format!("`{cut}`")
+}
+
+/// A word in a message, whatever a file holds.
+pub fn quoted(word: &str) -> String {
+    format!("`{}`", shortened(word, 40))
 }
 
 /// A number of at most so many bits: decimal, or hex with a trailing h or a leading 0x.
