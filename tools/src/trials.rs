@@ -124,12 +124,13 @@ fn damaged(random: &mut Random, text: &[u8]) -> Vec<u8> {
     for _ in 0..1 + random.below(4) {
         let at = random.below(bytes.len().max(1));
         let to = (at + random.below(80)).min(bytes.len());
-        match random.below(6) {
+        match random.below(7) {
             0 if !bytes.is_empty() => bytes[at] = random.below(256) as u8,
             1 if !bytes.is_empty() => bytes[at] = b"#=>h: \n9"[random.below(8)],
             2 if !bytes.is_empty() => drop(bytes.remove(at)),
             3 => bytes.insert(at, random.below(256) as u8),
             4 => drop(bytes.drain(at..to)),
+            5 => drop(bytes.splice(at..at, vec![0; random.below(2_000)])),
             _ => {
                 let piece = bytes[at..to].to_vec();
                 let at = random.below(bytes.len() + 1);
@@ -138,6 +139,15 @@ fn damaged(random: &mut Random, text: &[u8]) -> Vec<u8> {
         }
     }
     bytes
+}
+
+/// Whether a line expects something.
+fn expects(text: &[u8]) -> bool {
+    let expecting = |line: &[u8]| {
+        let code = line.split(|byte| *byte == b'#').next().unwrap_or(line);
+        code.windows(2).any(|pair| pair == b"=>")
+    };
+    text.split(|byte| *byte == b'\n').any(expecting)
 }
 
 /// The text with one expectation changed to another that could stand there, for each that it has.
@@ -248,7 +258,10 @@ fn main() {
         refused += usize::from(output.status.code() == Some(2));
         let traced = run("target/tools/trace", &["bytes", &name], b"");
         let same = (traced.status.code() == Some(2)) == (output.status.code() == Some(2));
-        let found = fault(&output, &name).or((!same).then(|| "tools/trace says another".into()));
+        let counted = String::from_utf8_lossy(&output.stdout).contains(", 0 expectations, ");
+        let found = fault(&output, &name)
+            .or((!same).then(|| "tools/trace says another".into()))
+            .or((counted && expects(&bytes)).then(|| "an expectation is passed over".into()));
         faults.extend(found.map(|fault| format!("{name}: {fault}")));
     }
     if refused < DAMAGED / 4 || refused == DAMAGED {
