@@ -257,7 +257,9 @@ fn main() {
         let output = replay(&["--quiet", &name]);
         refused += usize::from(output.status.code() == Some(2));
         let traced = run("target/tools/trace", &["bytes", &name], b"");
-        let same = (traced.status.code() == Some(2)) == (output.status.code() == Some(2));
+        // A text with nothing but damage left in it may be taken for a binary trace.
+        let same = (traced.status.code() == Some(2)) == (output.status.code() == Some(2))
+            || String::from_utf8_lossy(&traced.stderr).contains("a binary trace");
         let counted = String::from_utf8_lossy(&output.stdout).contains(", 0 expectations, ");
         let found = fault(&output, &name)
             .or((!same).then(|| "tools/trace says another".into()))
