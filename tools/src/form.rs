@@ -80,12 +80,9 @@ pub fn first_record(bytes: &[u8]) -> Result<(Record<'_>, &[u8]), Stop> {
     }
 }
 
-/// Where each record that is played ends, and why playing stops.
+/// Where each record that is played ends, and why playing stops, of a trace that is not too long.
 pub fn framing(bytes: &[u8]) -> (Vec<usize>, Stop) {
     let mut ends = Vec::new();
-    if bytes.len() > INPUT_LIMIT {
-        return (ends, Stop::Long);
-    }
     let mut rest = bytes;
     loop {
         if !rest.is_empty() && ends.len() == RECORD_LIMIT {
