@@ -34,9 +34,10 @@ const WINDOW: &[u8] = &[
     5, 0, 6, 0, 0x22, 0, 0xC1,
     5, 0, 6, 0, 0x23, 0, 0x02,
     7, 0, 3, 0, 4, 0x20, 0x80, 0x06, 0,
-    // boundary with SMI at 1000h; the handler's read 4 68020h
+    // boundary with SMI at 1000h; the handler's read 4 68020h, and a wake
     19, 0, 8, 0, 1, 0x00, 0x10, 0, 0, 0, 0, 0, 0, 0, 0, 0, 0, 0, 0, 0, 0,
     7, 0, 3, 0, 4, 0x20, 0x80, 0x06, 0,
+    2, 0, 10, 0,
 ];
 
 fn replay(trace: &[u8], main: &mut [u8], management: &mut [u8]) -> Vec<Event> {

@@ -90,7 +90,7 @@ pub fn replay_into(
     log: &mut [Event; RECORD_LIMIT],
 ) -> (usize, Reason) {
     let mut reason = 0;
-    // References keep what the library asks of pointers, and an Event is its number.
+    // SAFETY: references keep what the library asks of pointers, and an Event is its number.
     let count = unsafe {
         rostuvlad_replay(
             trace.as_ptr(),
@@ -112,12 +112,11 @@ pub fn replay_into(
     (count, reason)
 }
 
-/// The same, with a log of its own: 80,000 bytes of stack.
+/// The same, with a log of its own.
 pub fn replay(trace: &[u8], main: &mut [u8], management: &mut [u8]) -> Replay {
-    let mut log = [Event::default(); RECORD_LIMIT];
-    let (count, reason) = replay_into(trace, main, management, &mut log);
-    Replay {
-        events: log[..count].to_vec(),
-        reason,
-    }
+    let mut events = vec![Event::default(); RECORD_LIMIT];
+    let log = events.first_chunk_mut().expect("as many as it asks for");
+    let (count, reason) = replay_into(trace, main, management, log);
+    events.truncate(count);
+    Replay { events, reason }
 }

@@ -25,17 +25,19 @@ const ANSWERS: [&str; 13] = [
 
 pub fn show_answer((number, value): Answer) -> String {
     let name = ANSWERS[usize::from(number)];
-    match number == VALUE || value != 0 {
-        true => format!("{number} {name} {value:08x}"),
-        false => format!("{number} {name}"),
+    if number == VALUE {
+        format!("{number} {name} {value:08x}")
+    } else {
+        format!("{number} {name}")
     }
 }
 
 /// What is said of a line in which no record ends.
 pub fn without_record(outcome: &Outcome) -> &'static str {
-    match outcome.whole {
-        true => "no record ends here",
-        false => "not played",
+    if outcome.whole {
+        "no record ends here"
+    } else {
+        "not played"
     }
 }
 

@@ -21,9 +21,12 @@ pub fn reason_of(e: &io::Error) -> String {
 
 /// A file's name for messages, on one line; `-` is standard input.
 pub fn name_of(path: &OsStr) -> String {
-    let shown = |c: char| match c.is_control() {
-        true => c.escape_default().to_string(),
-        false => c.to_string(),
+    let shown = |c: char| {
+        if c.is_control() {
+            c.escape_default().to_string()
+        } else {
+            c.to_string()
+        }
     };
     match path.to_string_lossy().as_ref() {
         "-" => "standard input".into(),
@@ -47,9 +50,10 @@ pub fn place_of(path: &OsStr) -> PathBuf {
 
 /// A file's bytes, cut after one more than this.
 pub fn read_most(path: &OsStr, most: usize) -> Result<Vec<u8>, String> {
-    let source: io::Result<Box<dyn Read>> = match path == "-" {
-        true => Ok(Box::new(io::stdin().lock())),
-        false => File::open(path).map(|file| Box::new(file) as Box<dyn Read>),
+    let source: io::Result<Box<dyn Read>> = if path == "-" {
+        Ok(Box::new(io::stdin().lock()))
+    } else {
+        File::open(path).map(|file| Box::new(file) as Box<dyn Read>)
     };
     let mut bytes = Vec::new();
     source

@@ -74,10 +74,10 @@ pub fn first_record(bytes: &[u8]) -> Result<(Record<'_>, &[u8]), Stop> {
     let (record, after) = rest.split_at_checked(length).ok_or(Stop::Torn)?;
     let (kind, body) = record.split_first_chunk::<2>().ok_or(Stop::Bad)?;
     let kind = u16::from_le_bytes(*kind);
-    match body_length(kind) == Some(body.len()) {
-        true => Ok((Record { kind, body }, after)),
-        false => Err(Stop::Bad),
+    if body_length(kind) != Some(body.len()) {
+        return Err(Stop::Bad);
     }
+    Ok((Record { kind, body }, after))
 }
 
 /// Where each record that is played ends, and why playing stops, of a trace that is not too long.

@@ -1,6 +1,6 @@
 //! The words after tools/replay.
 
-use crate::files::place_of;
+use crate::files::{name_of, place_of};
 use std::ffi::{OsStr, OsString};
 use std::os::unix::ffi::OsStrExt;
 use std::path::PathBuf;
@@ -95,7 +95,7 @@ pub fn parsed(mut words: impl Iterator<Item = OsString>) -> Result<Request, Stri
             ("--lines", None) => o.lines = true,
             _ => {
                 let kept = o.file(&option).ok_or_else(|| {
-                    let word = name(&word);
+                    let word = name_of(&word);
                     format!("unknown option {word}: see --help; a file of this name goes behind --")
                 })?;
                 let file = given.or_else(|| words.next());
@@ -111,8 +111,4 @@ pub fn parsed(mut words: impl Iterator<Item = OsString>) -> Result<Request, Stri
         }
     }
     o.checked()
-}
-
-fn name(word: &OsStr) -> String {
-    word.to_string_lossy().escape_debug().collect()
 }

@@ -44,7 +44,7 @@ fn stop_of(reason: Reason) -> Stop {
 }
 
 /// Plays a trace; where there is no text, one that is too long.
-pub fn play(text: Option<&Text>, memories: &mut Memories) -> Result<Played, String> {
+pub fn play(name: &str, text: Option<&Text>, memories: &mut Memories) -> Result<Played, String> {
     let placed = text.and_then(|text| text.placed(INPUT_LIMIT));
     let long = placed.is_none();
     let (bytes, places) = placed.unwrap_or_default();
@@ -52,7 +52,9 @@ pub fn play(text: Option<&Text>, memories: &mut Memories) -> Result<Played, Stri
     // Where records end is told by their form, and has to be what the library found.
     let (ends, stop) = framing(&bytes);
     if replay.events.len() != ends.len() || stop_of(replay.reason) != stop {
-        return Err("the tool and the library read the trace differently: please report it".into());
+        return Err(format!(
+            "{name}: the tool and the library read it differently: report it"
+        ));
     }
     Ok(Played {
         ending: ending(&places, &ends),

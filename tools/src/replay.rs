@@ -35,15 +35,15 @@ const _: () = assert!(form::RECORD_LIMIT == rostuvlad::RECORD_LIMIT);
 
 /// A memory at the start: an image, filled up with zeros, or zeros alone.
 fn image(path: Option<&OsString>) -> Result<Vec<u8>, String> {
-    let mut bytes = match path {
-        Some(path) => read_most(path, MEMORY)?,
-        None => Vec::new(),
-    };
-    if bytes.len() > MEMORY {
-        let name = name_of(path.map_or(OsStr::new(""), |path| path));
-        return Err(format!(
-            "{name}: longer than the {MEMORY} bytes of a memory"
-        ));
+    let mut bytes = Vec::new();
+    if let Some(path) = path {
+        bytes = read_most(path, MEMORY)?;
+        if bytes.len() > MEMORY {
+            let name = name_of(path);
+            return Err(format!(
+                "{name}: longer than the {MEMORY} bytes of a memory"
+            ));
+        }
     }
     bytes.resize(MEMORY, 0);
     Ok(bytes)
@@ -73,10 +73,10 @@ fn text_of(path: &OsStr) -> Result<Option<Text>, String> {
     if is_text(&bytes) {
         return read_text(&name, &bytes).map(Some);
     }
-    match bytes.len() > INPUT_LIMIT {
-        true => Ok(None),
-        false => read_text(&name, show::show_trace(&bytes).as_bytes()).map(Some),
+    if bytes.len() > INPUT_LIMIT {
+        return Ok(None);
     }
+    read_text(&name, show::show_trace(&bytes).as_bytes()).map(Some)
 }
 
 /// Replays a trace, and tells how many records it has, how much it expects and how much differs.
@@ -84,7 +84,7 @@ fn replay(path: &OsStr, o: &Options, start: &Memories, out: &mut Output) -> Resu
     let name = name_of(path);
     let text = text_of(path)?;
     let mut memories = start.clone();
-    let played = play(text.as_ref(), &mut memories)?;
+    let played = play(&name, text.as_ref(), &mut memories)?;
     let text = text.unwrap_or_default();
     let differences = differences(&text, &played);
     let tally = Tally::of(&text, &played, &differences);
@@ -99,14 +99,15 @@ fn replay(path: &OsStr, o: &Options, start: &Memories, out: &mut Output) -> Resu
         out.line(reason);
         differing.for_each(|line| tell(&line));
     } else {
-        match o.quiet {
-            true => differing.for_each(|line| out.line(&line)),
-            false => Report {
+        if o.quiet {
+            differing.for_each(|line| out.line(&line));
+        } else {
+            let mut report = Report {
                 text: &text,
                 played: &played,
                 out,
-            }
-            .show(),
+            };
+            report.show();
         }
         out.line(&format!("{name}: {}, {reason}", tally.words()));
     }

@@ -82,11 +82,13 @@ impl Report<'_> {
         }
     }
 
-    /// Lines that stand for no bytes, but for the expected reason, which the last line answers.
+    /// Lines that stand for no bytes; of the expected reason, which the end answers, the comment.
     fn echo(&mut self, numbers: Range<usize>) {
         for number in numbers {
             if self.text.reason.is_none_or(|(line, _)| line != number) {
                 self.out.line(&self.text.source[number - 1]);
+            } else if let Some(comment) = self.text.comment(number) {
+                self.out.line(&format!("#{comment}"));
             }
         }
     }

@@ -1,7 +1,7 @@
 //! A trace's text (docs/TRACES.md): its lines, what they expect, and the bytes that they stand for.
 
 use crate::form::Stop;
-use crate::words::{parse_number, quoted, record};
+use crate::words::{hex, parse_number, quoted, record};
 use std::ops::Range;
 
 /// What is wrong with a line.
@@ -321,16 +321,13 @@ fn answer(words: &[&str]) -> Result<Answer, String> {
     let number = (0..=12)
         .find(|n: &u8| n.to_string() == number)
         .ok_or_else(|| format!("{} is no answer: write one of 0 to 12", quoted(number)))?;
-    let digit = |b| matches!(b, b'0'..=b'9' | b'a'..=b'f');
-    if value.len() != 8 || !value.bytes().all(digit) {
+    let lowercase = !value.bytes().any(|b| b.is_ascii_uppercase());
+    let value = hex(value, 8).filter(|_| lowercase).ok_or_else(|| {
         let value = quoted(value);
-        return Err(format!(
-            "the value {value} is not eight lowercase hex digits"
-        ));
+        format!("the value {value} is not eight lowercase hex digits")
+    })?;
+    if number != 6 && value != 0 {
+        return Err(format!("answer {number} carries no value: only 6 does"));
     }
-    let value = u32::from_str_radix(value, 16).map_err(|e| e.to_string())?;
-    match number != 6 && value != 0 {
-        true => Err(format!("answer {number} carries no value: only 6 does")),
-        false => Ok((number, value)),
-    }
+    Ok((number, value as u32))
 }

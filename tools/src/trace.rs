@@ -27,12 +27,12 @@ fn fail(problem: &str) -> ! {
 
 /// The text of a file that has to be one.
 fn text_in(name: &str, bytes: &[u8]) -> Result<Text, String> {
-    match is_text(bytes) {
-        true => read_text(name, bytes),
-        false => Err(format!(
-            "{name}: a binary trace, not a text: `tools/trace text FILE` shows it as text"
-        )),
+    if is_text(bytes) {
+        return read_text(name, bytes);
     }
+    Err(format!(
+        "{name}: a binary trace, not a text: `tools/trace text FILE` shows it as text"
+    ))
 }
 
 /// The output that the text expects. Each record that is played has to end in a line with an
@@ -54,9 +54,10 @@ fn expectation(text: &Text) -> Result<String, Vec<Problem>> {
             problems.push(Problem::at(text.source.len(), what));
         }
     }
-    match problems.is_empty() {
-        true => Ok(format!("{out}{}\n", stop.word())),
-        false => Err(problems),
+    if problems.is_empty() {
+        Ok(format!("{out}{}\n", stop.word()))
+    } else {
+        Err(problems)
     }
 }
 
@@ -95,47 +96,55 @@ fn played(text: &Text, bytes: &[u8], places: &[Place]) -> (String, Stop, Vec<Pro
     (out, stop, problems.collect())
 }
 
-fn run(command: &str, path: &OsString, out: &mut Output) -> Result<(), String> {
-    let name = name_of(path);
-    let bytes = read_trace(path)?;
-    match command {
-        "text" => {
-            if !bytes.is_empty() && is_text(&bytes) {
-                tell(&format!(
-                    "{name}: looks like text; shown as the bytes of a trace"
-                ));
-            }
-            let text = show::show_trace(&bytes);
-            if bytes.len().max(text.len()) > TEXT_LIMIT {
-                return Err(format!(
-                    "{name}: it or its text is longer than {TEXT_LIMIT} bytes"
-                ));
-            }
-            out.put(text.as_bytes());
-        }
-        "bytes" => text_in(&name, &bytes)?.pieces().for_each(|p| out.put(p)),
-        _ => {
-            let expected = expectation(&text_in(&name, &bytes)?);
-            out.put(
-                expected
-                    .map_err(|problems| listed(&name, &problems))?
-                    .as_bytes(),
-            );
-        }
+fn put_text(name: &str, bytes: &[u8], out: &mut Output) -> Result<(), String> {
+    if !bytes.is_empty() && is_text(bytes) {
+        tell(&format!(
+            "{name}: looks like text; shown as the bytes of a trace"
+        ));
     }
+    let text = show::show_trace(bytes);
+    if bytes.len().max(text.len()) > TEXT_LIMIT {
+        return Err(format!(
+            "{name}: it or its text is longer than {TEXT_LIMIT} bytes"
+        ));
+    }
+    out.put(text.as_bytes());
+    Ok(())
+}
+
+fn put_bytes(name: &str, bytes: &[u8], out: &mut Output) -> Result<(), String> {
+    text_in(name, bytes)?
+        .pieces()
+        .for_each(|piece| out.put(piece));
+    Ok(())
+}
+
+fn put_expectation(name: &str, bytes: &[u8], out: &mut Output) -> Result<(), String> {
+    let expected = expectation(&text_in(name, bytes)?);
+    out.put(
+        expected
+            .map_err(|problems| listed(name, &problems))?
+            .as_bytes(),
+    );
     Ok(())
 }
 
 fn main() {
     let args: Vec<OsString> = std::env::args_os().skip(1).collect();
+    let words: Vec<Option<&str>> = args.iter().map(|word| word.to_str()).collect();
     let mut out = Output::new("tools/trace");
-    match &args[..] {
-        [help] if help == "--help" || help == "-h" => out.put(HELP.as_bytes()),
-        [command, path] if ["bytes", "text", "expect"].iter().any(|c| command == c) => {
-            let done = run(&command.to_string_lossy(), path, &mut out);
-            done.unwrap_or_else(|problem| fail(&problem));
+    let put = match words[..] {
+        [Some("--help" | "-h")] => {
+            out.put(HELP.as_bytes());
+            return out.close();
         }
+        [Some("bytes"), _] => put_bytes,
+        [Some("text"), _] => put_text,
+        [Some("expect"), _] => put_expectation,
         _ => fail("tools/trace: not `bytes FILE`, `text FILE` or `expect FILE`: see --help"),
-    }
+    };
+    let path = &args[1];
+    let done = read_trace(path).and_then(|bytes| put(&name_of(path), &bytes, &mut out));
     out.close();
+    done.unwrap_or_else(|problem| fail(&problem));
 }

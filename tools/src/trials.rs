@@ -222,6 +222,9 @@ fn main() {
             count += 1;
         }
     }
+    if count < 1_000 {
+        faults.push(format!("only {count} were found to spoil"));
+    }
     ok &= tell(
         &format!("{count} spoilt expectations: status 1, and the line is named"),
         &faults,

@@ -23,15 +23,22 @@ pub const ADDRESS_ALONE: u8 = 0x05;
 /// A text cut to so many characters.
 pub fn shortened(text: &str, most: usize) -> String {
     let cut: String = text.chars().take(most).collect();
-    match cut.len() < text.len() {
-        true => format!("{cut}.."),
-        false => cut,
+    if cut.len() < text.len() {
+        cut + ".."
+    } else {
+        cut
     }
 }
 
 /// A word in a message, whatever a file holds.
 pub fn quoted(word: &str) -> String {
     format!("`{}`", shortened(word, 40))
+}
+
+/// A number of just so many hex digits.
+pub fn hex(digits: &str, count: usize) -> Option<u64> {
+    let all = digits.len() == count && digits.bytes().all(|b| b.is_ascii_hexdigit());
+    all.then(|| u64::from_str_radix(digits, 16).ok())?
 }
 
 /// A number of at most so many bits: decimal, or hex with a trailing h or a leading 0x.
@@ -55,7 +62,7 @@ pub fn parse_number(word: &str, bits: u32) -> Result<u32, String> {
 }
 
 /// Which of the names a word is, in small letters or in capitals.
-fn place_in(names: &[&str], word: &str) -> Option<usize> {
+fn index_of(names: &[&str], word: &str) -> Option<usize> {
     names
         .iter()
         .position(|name| name.eq_ignore_ascii_case(word))
@@ -116,17 +123,17 @@ impl<'a> Words<'a> {
 struct Body(Vec<u8>);
 
 impl Body {
-    fn byte(mut self, n: u32) -> Body {
+    fn u8(mut self, n: u32) -> Body {
         self.0.push(n as u8);
         self
     }
 
-    fn half(mut self, n: u32) -> Body {
+    fn u16(mut self, n: u32) -> Body {
         self.0.extend_from_slice(&(n as u16).to_le_bytes());
         self
     }
 
-    fn word(mut self, n: u32) -> Body {
+    fn u32(mut self, n: u32) -> Body {
         self.0.extend_from_slice(&n.to_le_bytes());
         self
     }
@@ -138,8 +145,8 @@ impl Body {
 
     fn record(self, kind: u16) -> Vec<u8> {
         let mut out = Body::default()
-            .half(self.0.len() as u32 + 2)
-            .half(kind.into())
+            .u16(self.0.len() as u32 + 2)
+            .u16(kind.into())
             .0;
         out.extend_from_slice(&self.0);
         out
@@ -160,18 +167,18 @@ pub fn record(words: &[&str]) -> Result<Vec<u8>, String> {
         "wake" => body.record(WAKE),
         "registers" => registers(&mut w)?,
         "read" => body
-            .byte(w.next_number("width", 8)?)
-            .word(w.next_number("address", 32)?)
+            .u8(w.next_number("width", 8)?)
+            .u32(w.next_number("address", 32)?)
             .record(READ),
         "write" => body
-            .byte(w.next_number("width", 8)?)
-            .word(w.next_number("address", 32)?)
-            .word(w.next_number("value", 32)?)
+            .u8(w.next_number("width", 8)?)
+            .u32(w.next_number("address", 32)?)
+            .u32(w.next_number("value", 32)?)
             .record(WRITE),
-        "in" => body.half(w.next_number("port", 16)?).record(IN),
+        "in" => body.u16(w.next_number("port", 16)?).record(IN),
         "out" => body
-            .half(w.next_number("port", 16)?)
-            .byte(w.next_number("value", 8)?)
+            .u16(w.next_number("port", 16)?)
+            .u8(w.next_number("value", 8)?)
             .record(OUT),
         "opcode" => {
             let byte = w.next_number("byte", 8)?;
@@ -187,7 +194,7 @@ pub fn record(words: &[&str]) -> Result<Vec<u8>, String> {
         "rsm" => opcode(RSM.into(), 0, 0, 0),
         "boundary" => boundary(&mut w)?,
         "raw" => return raw(&words[1..]),
-        name => match place_in(&OPERAND_OPCODES, name) {
+        name => match index_of(&OPERAND_OPCODES, name) {
             Some(place) => operand_opcode(place, &mut w)?,
             None => return Err(format!("{} is no record", quoted(words[0]))),
         },
@@ -198,10 +205,10 @@ pub fn record(words: &[&str]) -> Result<Vec<u8>, String> {
 
 fn registers(w: &mut Words) -> Result<Vec<u8>, String> {
     let body = Body::default()
-        .word(w.key_number("eip", 32)?)
-        .word(w.key_number("eflags", 32)?)
-        .word(w.key_number("cr0", 32)?)
-        .word(w.key_number("dr7", 32)?);
+        .u32(w.key_number("eip", 32)?)
+        .u32(w.key_number("eflags", 32)?)
+        .u32(w.key_number("cr0", 32)?)
+        .u32(w.key_number("dr7", 32)?);
     let (selector, descriptor) = match w.key("cs") {
         None => (0, [0; 8]),
         Some(cs) => {
@@ -215,30 +222,25 @@ fn registers(w: &mut Words) -> Result<Vec<u8>, String> {
         }
     };
     Ok(body
-        .half(selector)
+        .u16(selector)
         .bytes(&descriptor)
-        .byte(w.key_number("level", 8)?)
-        .byte(w.key_number("writable", 8)?)
+        .u8(w.key_number("level", 8)?)
+        .u8(w.key_number("writable", 8)?)
         .record(REGISTERS))
 }
 
 /// Eight bytes in the order of memory, as document 01 writes them.
 fn parse_descriptor(digits: &str) -> Result<[u8; 8], String> {
-    let wrong = || format!("the descriptor {} is not 16 hex digits", quoted(digits));
-    if digits.len() != 16 || !digits.bytes().all(|b| b.is_ascii_hexdigit()) {
-        return Err(wrong());
-    }
-    u64::from_str_radix(digits, 16)
-        .map(|d| d.to_be_bytes())
-        .map_err(|_| wrong())
+    let descriptor = hex(digits, 16).map(u64::to_be_bytes);
+    descriptor.ok_or_else(|| format!("the descriptor {} is not 16 hex digits", quoted(digits)))
 }
 
 fn opcode(byte: u32, modrm: u32, address: u32, next: u32) -> Vec<u8> {
     Body::default()
-        .byte(byte)
-        .byte(modrm)
-        .word(address)
-        .word(next)
+        .u8(byte)
+        .u8(modrm)
+        .u32(address)
+        .u32(next)
         .record(OPCODE)
 }
 
@@ -247,7 +249,7 @@ fn operand_opcode(place: usize, w: &mut Words) -> Result<Vec<u8>, String> {
     if place < 2 {
         let name = w.next("segment")?;
         let wrong = || format!("{} is no segment: {}", quoted(name), SEGMENTS.join(", "));
-        field = place_in(&SEGMENTS, name).ok_or_else(wrong)? as u32;
+        field = index_of(&SEGMENTS, name).ok_or_else(wrong)? as u32;
     }
     let address = w.next_number("address", 32)?;
     let byte = u32::from(FIRST_OPERAND_OPCODE) + place as u32;
@@ -261,8 +263,8 @@ fn operand_opcode(place: usize, w: &mut Words) -> Result<Vec<u8>, String> {
 
 fn boundary(w: &mut Words) -> Result<Vec<u8>, String> {
     let body = Body::default()
-        .byte(w.key_number("smi", 8)?)
-        .word(w.key_number("current", 32)?);
+        .u8(w.key_number("smi", 8)?)
+        .u32(w.key_number("current", 32)?);
     let name = w.left.iter().position(|word| !word.contains('='));
     let code = match (name, w.key("code")) {
         (Some(_), Some(_)) => return Err("an interruption has a name or a code, not both".into()),
@@ -272,15 +274,15 @@ fn boundary(w: &mut Words) -> Result<Vec<u8>, String> {
             let name = w.left.remove(place);
             let names = INTERRUPTIONS.join(", ");
             let wrong = || format!("{} is no interruption: {names}", quoted(name));
-            place_in(&INTERRUPTIONS, name).ok_or_else(wrong)? as u32
+            index_of(&INTERRUPTIONS, name).ok_or_else(wrong)? as u32
         }
     };
     Ok(body
-        .byte(code)
-        .half(w.key_number("port", 16)?)
-        .byte(w.key_number("size", 8)?)
-        .word(w.key_number("data", 32)?)
-        .word(w.key_number("index", 32)?)
+        .u8(code)
+        .u16(w.key_number("port", 16)?)
+        .u8(w.key_number("size", 8)?)
+        .u32(w.key_number("data", 32)?)
+        .u32(w.key_number("index", 32)?)
         .record(BOUNDARY))
 }
 
@@ -288,9 +290,9 @@ fn raw(words: &[&str]) -> Result<Vec<u8>, String> {
     if words.is_empty() {
         return Err("`raw` lacks its bytes".into());
     }
-    let byte = |word: &&str| match word.len() == 2 && word.bytes().all(|b| b.is_ascii_hexdigit()) {
-        true => u8::from_str_radix(word, 16).map_err(|e| e.to_string()),
-        false => Err(format!("{} is not two hex digits", quoted(word))),
+    let byte = |word: &&str| {
+        let byte = hex(word, 2).map(|byte| byte as u8);
+        byte.ok_or_else(|| format!("{} is not two hex digits", quoted(word)))
     };
     words.iter().map(byte).collect()
 }
