@@ -115,7 +115,8 @@ impl Played {
         place.is_some_and(|place| place.bytes.start < self.played_to())
     }
 
-    /// Whether the same records end at the same distance in two places, with the same answers.
+    /// Whether the same came of two places: the same records end there at the same distance, with the
+    /// same answers, and both were played to the end or neither.
     pub fn is_same(&self, one: usize, other: usize) -> bool {
         let of_place = |place: usize| {
             let start = self.places[place].bytes.start;
@@ -124,6 +125,6 @@ impl Played {
                 (bytes.end - start, &self.bytes[bytes], self.answer(record))
             })
         };
-        of_place(one).eq(of_place(other))
+        of_place(one).eq(of_place(other)) && self.outcome(one).whole == self.outcome(other).whole
     }
 }
