@@ -1,1 +1,2 @@
 pub mod Lock
+pub mod Place

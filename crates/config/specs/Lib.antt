@@ -1,3 +1,4 @@
 pub mod Settings
 pub mod Ports
 pub mod Locked
+pub mod Headers

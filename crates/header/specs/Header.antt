@@ -50,11 +50,30 @@ trapOf (StringOutput t i) = trap true false (portSize t) (cut t) i
 trapOf (RepInput i) = trap false true 0 0 i
 trapOf (RepOutput t i) = trap true true (portSize t) (cut t) i
 
+-- What entry at a boundary records. Next IP is EIP. Current IP is the address that the boundary gives, but EIP on a halted machine.
+abbrev pub boundarySaved : Registers → Bool → ℕ → Interruption → Saved
+boundarySaved r halted current i = record {
+  registers = r;
+  current = cond halted (r .eip) current;
+  next = r .eip;
+  trap = trapOf i;
+  smint = false;
+  halted = halted;
+}
+
+-- What entry by SMINT records. Next IP is the step's next address; current IP is EIP.
+abbrev pub smintSaved : Registers → Bool → ℕ → Saved
+smintSaved r halted next = record { registers = r; current = r .eip; next = next; trap = trapOf None; smint = true; halted = halted }
+
+-- the header's length, in bytes
+abbrev pub headerLength : ℕ
+headerLength = 48
+
 -- the table's words
 pub data Word : Type 0 where
   Dr7 Eflags Cr0 CurrentIp NextIp CsLevel DescriptorHigh DescriptorLow Flags PortSize OutputData StringIndex : Word
 
--- the table's first column: how far below the region's end each word begins
+-- the table's first column: how far below the header's end each word begins
 abbrev pub depth : Word → ℕ
 depth Dr7 = 0x4
 depth Eflags = 0x8
@@ -96,7 +115,7 @@ upward =
 abbrev pub wordsBytes : List ℕ → List ℕ
 wordsBytes ws = flatMap (bytesOf 4) ws
 
--- the 48 bytes
+-- the header's 48 bytes
 unfoldable pub headerBytes : Saved → List ℕ
 headerBytes s = wordsBytes (map (contents s) upward)
 
@@ -106,7 +125,7 @@ headed g at s = sets g at (headerBytes s)
 
 -- a word of the header whose first byte is at a place
 abbrev pub wordIn : List ℕ → ℕ → Word → ℕ
-wordIn g at w = fieldAt g (at + (48 - depth w)) 4
+wordIn g at w = fieldAt g (at + (headerLength - depth w)) 4
 
 -- the registers that RSM loads; EIP is next IP
 unfoldable pub resumed : List ℕ → ℕ → Registers

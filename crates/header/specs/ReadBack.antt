@@ -5,12 +5,12 @@ use mathlib.Core.List.{List}
 use lib.ListN.{length, getD}
 use Rattle.header.specs.declared.Registers.{Registers}
 use Rattle.header.specs.declared.Saved.{Saved}
-use Rattle.header.specs.Header.{Word, depth, contents, upward, headed, wordIn, resumed, withEip}
+use Rattle.header.specs.Header.{headerLength, Word, depth, contents, upward, headed, wordIn, resumed, withEip}
 use Rattle.header.specs.Header.Word.{Dr7}
 
 -- The words fill the 48 bytes below the end: the k-th upward begins 4 k above the first. (Said by an addition, since a subtraction stops at 0.)
 abbrev pub TableFills : Type 0
-TableFills = (length upward ≡ 12) × ((k : ℕ) → k < 12 → depth (getD upward k Dr7) + 4 * k ≡ 48)
+TableFills = (length upward ≡ 12) × ((k : ℕ) → k < 12 → depth (getD upward k Dr7) + 4 * k ≡ headerLength)
 
 -- numbers of the widths that 01 gives the registers, as those of every value of the code's own types are
 pub record RegistersFit (r : Registers) : Type 0 where
@@ -32,10 +32,10 @@ pub record SavedFits (s : Saved) : Type 0 where
 -- every word of the table is found at its place with what it was written to hold
 abbrev pub WordsReadBack : Type 0
 WordsReadBack =
-    (g : List ℕ) (at : ℕ) (s : Saved) → at + 48 ≤ length g → SavedFits s → (w : Word) → wordIn (headed g at s) at w ≡ contents s w
+    (g : List ℕ) (at : ℕ) (s : Saved) → at + headerLength ≤ length g → SavedFits s → (w : Word) → wordIn (headed g at s) at w ≡ contents s w
 
 -- so RSM loads the registers that entry saved, with next IP as EIP
 abbrev pub RegistersReadBack : Type 0
 RegistersReadBack =
-    (g : List ℕ) (at : ℕ) (s : Saved) → at + 48 ≤ length g → SavedFits s
+    (g : List ℕ) (at : ℕ) (s : Saved) → at + headerLength ≤ length g → SavedFits s
     → resumed (headed g at s) at ≡ withEip (s .registers) (s .next)

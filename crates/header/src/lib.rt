@@ -4,7 +4,7 @@ ghost use mathlib.Core.List.{map};
 ghost use Prim.Native.Nat.{_+_, _*_, _<_, _≤_};
 ghost use lib.ListN.{length};
 ghost use lib.Seq.{sets};
-ghost use Rattle.header.specs.Header.{levelNumber, levelOf, sizeBits, portSize, cut, trap, trapOf, contents, upward, wordsBytes, headed, resumed};
+ghost use Rattle.header.specs.Header.{levelNumber, levelOf, sizeBits, portSize, cut, trap, trapOf, boundarySaved, smintSaved, contents, upward, wordsBytes, headed, resumed};
 ghost use Rattle.header.specs.ReadBack.{TableFills, SavedFits, WordsReadBack, RegistersReadBack};
 ghost use Rattle.header.specs.Entry.{entryCs, entryRegisters};
 use memory::Segment;
@@ -127,7 +127,7 @@ fn input_trap(rep: bool, index: u32) -> Trap
 }
 
 // What a header records of an interruption.
-pub fn trap_of(i: Interruption) -> Trap
+fn trap_of(i: Interruption) -> Trap
     ensures { λ r. ⌜ r ≡ trapOf i ⌝ }
 {
     match i {
@@ -138,6 +138,41 @@ pub fn trap_of(i: Interruption) -> Trap
         Interruption::StringOutput(t, x) => output_trap(t, false, x),
         Interruption::RepInput(x) => input_trap(true, x),
         Interruption::RepOutput(t, x) => output_trap(t, true, x),
+    }
+}
+
+// What entry at a boundary records.
+pub fn saved_at_boundary(
+    registers: Registers,
+    halted: bool,
+    current: u32,
+    interruption: Interruption,
+) -> Saved
+    ensures { λ r. ⌜ r ≡ boundarySaved registers halted current interruption ⌝ }
+{
+    let trap = trap_of(interruption);
+    Saved {
+        registers: registers,
+        current: fields::either(halted, registers.eip, current),
+        next: registers.eip,
+        trap: trap,
+        smint: false,
+        halted: halted,
+    }
+}
+
+// What entry by SMINT records.
+pub fn saved_by_smint(registers: Registers, halted: bool, next: u32) -> Saved
+    ensures { λ r. ⌜ r ≡ smintSaved registers halted next ⌝ }
+{
+    let trap = trap_of(Interruption::None);
+    Saved {
+        registers: registers,
+        current: registers.eip,
+        next: next,
+        trap: trap,
+        smint: true,
+        halted: halted,
     }
 }
 

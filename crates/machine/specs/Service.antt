@@ -1,52 +1,32 @@
--- 01, "Boundary" and "Forty-eight bytes below the top": entry to management mode, and the way back by RSM.
+-- 01, "Boundary" and "Forty-eight bytes below the top", and 02, request 1: entry to management mode, and the way back by RSM.
 use Prim.Native.Nat.{ℕ}
 use mathlib.Core.Bool.{Bool, true, false, cond, not, _&&_, _||_}
 use mathlib.Core.List.{List}
 use Rattle.memory.specs.Memory.{Memories, memories}
 use Rattle.steps.specs.declared.Interruption.{Interruption}
-use Rattle.steps.specs.declared.Interruption.the-variants.{None}
 use Rattle.steps.specs.declared.Answer.the-variants.{Nothing, Ignored, Latched, Entered, Resumed}
 use Rattle.config.specs.Settings.{regionIn, enabled, headerPlace}
-use Rattle.config.specs.declared.Settings.{Settings}
 use Rattle.header.specs.declared.Saved.{Saved}
-use Rattle.header.specs.Header.{trapOf, headed, resumed}
+use Rattle.header.specs.Header.{boundarySaved, smintSaved, headed, resumed}
 use Rattle.header.specs.Entry.{entryRegisters}
 use Rattle.machine.specs.declared.Machine.{Machine}
 use Rattle.machine.specs.declared.Stepped.{Stepped}
-use Rattle.machine.specs.Machines.{machine, withLatched}
+use Rattle.machine.specs.Machines.{machine, settingsOf, withLatched}
 use Rattle.machine.specs.Outcomes.{Outcome, gives, ends}
 
-abbrev pub settingsOf : Machine → Settings
-settingsOf m = m .config .settings
-
--- What entry at a boundary records. Next IP is EIP. Current IP is the address that the boundary gives, but EIP on a halted machine.
+-- what is recorded of a machine at entry by a boundary, and at entry by SMINT
 abbrev pub savedAtBoundary : Machine → ℕ → Interruption → Saved
-savedAtBoundary m current i = record {
-  registers = m .registers;
-  current = cond (m .halted) (m .registers .eip) current;
-  next = m .registers .eip;
-  trap = trapOf i;
-  smint = false;
-  halted = m .halted;
-}
+savedAtBoundary m current i = boundarySaved (m .registers) (m .halted) current i
 
--- What entry by SMINT records. Next IP is the step's next address; current IP is EIP.
 abbrev pub savedBySmint : Machine → ℕ → Saved
-savedBySmint m next = record {
-  registers = m .registers;
-  current = m .registers .eip;
-  next = next;
-  trap = trapOf None;
-  smint = true;
-  halted = m .halted;
-}
+savedBySmint m next = smintSaved (m .registers) (m .halted) next
 
 -- Entry loads its registers, wakes the machine and takes it inside. What becomes of the latch goes by how it enters; nothing else moves.
 unfoldable pub enteredMachine : Machine → Bool → Machine
 enteredMachine m latched =
     machine (entryRegisters (m .registers) (regionIn (settingsOf m) .base)) (m .segments) false true latched (m .config)
 
--- The header goes to management memory, whatever SMAC and MMAC say.
+-- The header goes to its edition's place in management memory, whatever SMAC and MMAC say.
 unfoldable pub entry : Machine → Memories → Saved → Bool → Outcome
 entry m x s latched =
     ends (gives (enteredMachine m latched) Entered) (memories (x .main) (headed (x .management) (headerPlace (settingsOf m)) s))

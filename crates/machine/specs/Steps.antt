@@ -3,26 +3,26 @@ use Prim.Native.Nat.{ℕ}
 use mathlib.Core.Bool.{Bool, true, false, cond, _&&_}
 use lib.Dec.{eqb}
 use Rattle.region.specs.declared.Region.{Region}
-use Rattle.memory.specs.Memory.{segment, Memories, there, operandLength, segmentAt, storeSegment, reads, writes}
+use Rattle.memory.specs.Memory.{segment, Memories, there, load, store, segmentAt, storeSegment, reads, writes}
 use Rattle.refusals.specs.declared.Verdict.{Verdict}
 use Rattle.refusals.specs.declared.Verdict.the-variants.{Refused, Allowed}
 use Rattle.refusals.specs.Refusals.{firstRefusal}
 use Rattle.steps.specs.declared.Answer.the-variants.{Done, Malformed, Invalid, Absent}
 use Rattle.steps.specs.declared.Step.{Step}
 use Rattle.steps.specs.declared.Step.the-variants.{Reset, Registers, Read, Write, PortRead, PortWrite, Opcode, Boundary, UnnamedBoundary, Halt, Wake}
-use Rattle.config.specs.Settings.{windowOf, opcodesAllowed}
+use Rattle.config.specs.Settings.{windowOf, opcodesAllowed, smhr, withSmhr}
 use Rattle.config.specs.Ports.{portRead, portWrite}
 use Rattle.config.specs.declared.Accessed.{Accessed}
 use Rattle.header.specs.Header.{levelNumber, levelOf, withEip}
-use Rattle.opcodes.specs.declared.SegmentName.{SegmentName}
+use Rattle.segments.specs.declared.SegmentName.{SegmentName}
 use Rattle.opcodes.specs.declared.Operation.{Operation}
-use Rattle.opcodes.specs.declared.Operation.the-variants.{Save, Restore, Smint, Rsm, Undefined}
-use Rattle.opcodes.specs.Decode.{operationOf, allowed}
+use Rattle.opcodes.specs.declared.Operation.the-variants.{Save, Restore, Rdshr, Wrshr, Smint, Rsm, Undefined}
+use Rattle.opcodes.specs.Decode.{operationOf, operandSize, allowed}
 use Rattle.machine.specs.declared.Machine.{Machine}
 use Rattle.machine.specs.declared.Stepped.{Stepped}
-use Rattle.machine.specs.Machines.{withRegisters, withHalted, withConfig, segmentIn, withSegment, resetMachine}
+use Rattle.machine.specs.Machines.{settingsOf, editionOf, withRegisters, withHalted, withConfig, withSettings, segmentIn, withSegment, resetMachine}
 use Rattle.machine.specs.Outcomes.{Outcome, gives, ends, refused}
-use Rattle.machine.specs.Service.{settingsOf, entryBySmint, boundaryStep, resume}
+use Rattle.machine.specs.Service.{entryBySmint, boundaryStep, resume}
 
 -- the region whose bytes management memory answers
 abbrev pub window : Machine → Region
@@ -30,8 +30,8 @@ window m = windowOf (settingsOf m) (m .inside)
 
 -- ---- reset, registers
 
-abbrev pub resetStep : Stepped
-resetStep = gives resetMachine Done
+abbrev pub resetStep : Machine → Stepped
+resetStep m = gives (resetMachine (editionOf m)) Done
 
 abbrev pub registersStep : Machine → ℕ → ℕ → ℕ → ℕ → ℕ → ℕ → ℕ → ℕ → Stepped
 registersStep m eip eflags cr0 dr7 selector descriptor level writable =
@@ -72,38 +72,51 @@ portWriteStep m port v = portStep m (portWrite (m .config) port v (m .inside))
 unfoldable pub permitted : Machine → Bool
 permitted m = eqb (levelNumber (m .registers .level)) 0 && opcodesAllowed (settingsOf m) (m .inside)
 
+-- an operation is valid where they do, and where it may run by its own rule (02, request 1: the fit, and the lock)
 unfoldable pub valid : Machine → Operation → Bool
-valid m o = permitted m && allowed (m .inside) o
+valid m o = permitted m && allowed (settingsOf m) (m .inside) o
 
--- saving and restoring end with EIP at the next address
+-- the operation that an opcode asks for; one that isn't valid is undefined
+unfoldable pub operationOn : Machine → ℕ → ℕ → Operation
+operationOn m op modrm = let o = operationOf (editionOf m) op modrm in cond (valid m o) o Undefined
+
+-- an operation with an operand ends with EIP at the next address
 abbrev pub advanced : Machine → ℕ → Machine
 advanced m next = withRegisters m (withEip (m .registers) next)
 
--- SVDC, SVLDT and SVTS, where the ten bytes of the operand are all there
+-- SVDC, SVLDT and SVTS
 unfoldable pub saved : Machine → Memories → SegmentName → ℕ → ℕ → Outcome
-saved m x name a next =
-    cond (there (window m) x a operandLength)
-    (ends (gives (advanced m next) Done) (storeSegment (window m) x a (segmentIn m name)))
-    (refused m x Absent)
+saved m x name a next = ends (gives (advanced m next) Done) (storeSegment (window m) x a (segmentIn m name))
 
 -- RSDC, RSLDT and RSTS
 unfoldable pub restored : Machine → Memories → SegmentName → ℕ → ℕ → Stepped
-restored m x name a next =
-    cond (there (window m) x a operandLength)
-    (gives (advanced (withSegment m name (segmentAt (window m) x a)) next) Done)
-    (gives m Absent)
+restored m x name a next = gives (advanced (withSegment m name (segmentAt (window m) x a)) next) Done
 
--- a valid operation; an undefined one never is
+-- 02, request 1: RDSHR stores SMHR
+unfoldable pub smhrStored : Machine → Memories → ℕ → ℕ → Outcome
+smhrStored m x a next = ends (gives (advanced m next) Done) (store (window m) x a (operandSize Rdshr) (smhr (settingsOf m)))
+
+-- WRSHR loads it
+unfoldable pub smhrLoaded : Machine → Memories → ℕ → ℕ → Stepped
+smhrLoaded m x a next =
+    gives (advanced (withSettings m (withSmhr (settingsOf m) (load (window m) x a (operandSize Wrshr)))) next) Done
+
+-- an operation whose operand, if it has one, is all there
 unfoldable pub operated : Machine → Memories → Operation → ℕ → ℕ → Outcome
 operated m x (Save name) a next = saved m x name a next
 operated m x (Restore name) a next = ends (restored m x name a next) x
+operated m x Rdshr a next = smhrStored m x a next
+operated m x Wrshr a next = ends (smhrLoaded m x a next) x
 operated m x Smint a next = entryBySmint m x next
 operated m x Rsm a next = ends (resume m (x .management)) x
 operated m x Undefined a next = refused m x Invalid
 
+-- An operand is there as a whole, or the step is refused. An undefined operation has none, so that answer 4 comes before 5.
+unfoldable pub withOperand : Machine → Memories → Operation → ℕ → ℕ → Outcome
+withOperand m x o a next = cond (there (window m) x a (operandSize o)) (operated m x o a next) (refused m x Absent)
+
 unfoldable pub opcodeStep : Machine → Memories → ℕ → ℕ → ℕ → ℕ → Outcome
-opcodeStep m x op modrm a next =
-    let o = operationOf op modrm in cond (valid m o) (operated m x o a next) (refused m x Invalid)
+opcodeStep m x op modrm a next = withOperand m x (operationOn m op modrm) a next
 
 -- ---- halt, wake
 
@@ -117,7 +130,7 @@ wakeStep m = gives (withHalted m false) Done
 
 -- one that no refusal of 1 to 3 stops; a boundary that names no interruption is never that
 unfoldable pub performed : Machine → Memories → Step → Outcome
-performed m x Reset = ends resetStep x
+performed m x Reset = ends (resetStep m) x
 performed m x (Registers eip eflags cr0 dr7 selector descriptor level writable) =
     ends (registersStep m eip eflags cr0 dr7 selector descriptor level writable) x
 performed m x (Read width a) = ends (readStep m x width a) x

@@ -1,42 +1,30 @@
 ghost use mathlib.Core.Path.{_≡_};
-ghost use mathlib.Core.Bool.{true, false, cond};
+ghost use mathlib.Core.Bool.{true, false};
 ghost use mathlib.Core.List.{List};
 ghost use Prim.Native.Nat.{ℕ};
 ghost use lib.Dec.{eqb};
 ghost use Rattle.memory.specs.Memory.{memories};
 ghost use Rattle.steps.specs.Steps.{isWidth, malformed};
-ghost use Rattle.opcodes.specs.Decode.{operationOf};
-ghost use Rattle.opcodes.specs.declared.Operation.the-variants.{Undefined};
-ghost use Rattle.machine.specs.Machines.{withRegisters, withSegments, segmentIn, withSegment, resetMachine};
+ghost use Rattle.machine.specs.Machines.{settingsOf, editionOf, withRegisters, withConfig, withSettings, withSegments, segmentIn, withSegment, resetMachine};
 ghost use Rattle.machine.specs.Outcomes.{gives, ends};
 ghost use Rattle.machine.specs.Service.{enteredMachine, entry, entryAtBoundary, entryBySmint, taken, passed, boundaryStep, resume};
-ghost use Rattle.machine.specs.Steps.{window, resetStep, registersStep, readStep, writeStep, portStep, portReadStep, portWriteStep, haltStep, wakeStep, permitted, valid, advanced, saved, restored, opcodeStep, performed, stepped};
+ghost use Rattle.machine.specs.Steps.{window, resetStep, registersStep, readStep, writeStep, portStep, portReadStep, portWriteStep, haltStep, wakeStep, permitted, valid, operationOn, advanced, saved, restored, smhrStored, smhrLoaded, operated, opcodeStep, performed, stepped};
 use config::Accessed;
 use config::Config;
+use config::Edition;
 use config::Settings;
 use header::Level;
 use header::Registers;
 use header::Saved;
 use memory::Segment;
 use opcodes::Operation;
-use opcodes::SegmentName;
 use refusals::Verdict;
 use region::Region;
+use segments::SegmentName;
+use segments::Segments;
 use steps::Answer;
 use steps::Interruption;
 use steps::Step;
-
-const OPERAND_LENGTH: u8 = 10;
-
-pub struct Segments {
-    pub ds: Segment,
-    pub es: Segment,
-    pub fs: Segment,
-    pub gs: Segment,
-    pub ss: Segment,
-    pub ldtr: Segment,
-    pub tr: Segment,
-}
 
 pub struct Machine {
     pub registers: Registers,
@@ -54,13 +42,11 @@ pub struct Stepped {
 }
 
 impl Machine {
-    // The machine after a reset, from which a program starts.
-    pub fn initial() -> Machine
-        ensures { λ r. ⌜ r ≡ resetMachine ⌝ }
+    // The machine of an edition after a reset, from which a program starts.
+    pub fn initial(edition: Edition) -> Machine
+        ensures { λ r. ⌜ r ≡ resetMachine edition ⌝ }
     {
         let cs = memory::segment_of(0xF000, 0xFF0093FF0000FFFF);
-        let ordinary = memory::segment_of(0, 0x000093000000FFFF);
-        let none = memory::segment_of(0, 0);
         let registers = Registers {
             eip: 0xFFF0,
             eflags: 2,
@@ -70,21 +56,19 @@ impl Machine {
             level: Level::Zero,
             writable: true,
         };
-        let segments = Segments {
-            ds: ordinary,
-            es: ordinary,
-            fs: ordinary,
-            gs: ordinary,
-            ss: ordinary,
-            ldtr: none,
-            tr: none,
-        };
+        let segments = segments::initial();
         let settings = Settings {
+            edition: edition,
             ccr1: 0,
             ccr3: 0,
             high: 0,
             middle: 0,
             low: 0,
+            ccr6: 0,
+            smhr0: 0,
+            smhr1: 0,
+            smhr2: 0,
+            smhr3: 0,
         };
         let config = Config {
             settings: settings,
@@ -106,7 +90,6 @@ impl Machine {
         ensures { λ r. ⌜ r ≡ self ⌝ }
     {
         let r = self.registers;
-        let s = self.segments;
         let level = r.level;
         let config = self.config;
         let registers = Registers {
@@ -118,15 +101,7 @@ impl Machine {
             level: level,
             writable: r.writable,
         };
-        let segments = Segments {
-            ds: memory::fresh(s.ds),
-            es: memory::fresh(s.es),
-            fs: memory::fresh(s.fs),
-            gs: memory::fresh(s.gs),
-            ss: memory::fresh(s.ss),
-            ldtr: memory::fresh(s.ldtr),
-            tr: memory::fresh(s.tr),
-        };
+        let segments = self.segments.anew();
         Machine {
             registers: registers,
             segments: segments,
@@ -166,18 +141,8 @@ impl Machine {
     fn segment(self, name: SegmentName) -> Segment
         ensures { λ r. ⌜ r ≡ segmentIn self name ⌝ }
     {
-        let s = self.segments;
         let r = self.registers;
-        match name {
-            SegmentName::Es => s.es,
-            SegmentName::Cs => r.cs,
-            SegmentName::Ss => s.ss,
-            SegmentName::Ds => s.ds,
-            SegmentName::Fs => s.fs,
-            SegmentName::Gs => s.gs,
-            SegmentName::Ldtr => s.ldtr,
-            SegmentName::Tr => s.tr,
-        }
+        self.segments.named(r.cs, name)
     }
 
     fn with_segments(self, segments: Segments) -> Machine
@@ -191,51 +156,42 @@ impl Machine {
     fn with_segment(self, name: SegmentName, value: Segment) -> Machine
         ensures { λ r. ⌜ r ≡ withSegment self name value ⌝ }
     {
-        let mut s = self.segments;
-        let mut r = self.registers;
-        match name {
-            SegmentName::Es => {
-                s.es = value;
-                self.with_segments(s)
-            }
-            SegmentName::Ss => {
-                s.ss = value;
-                self.with_segments(s)
-            }
-            SegmentName::Ds => {
-                s.ds = value;
-                self.with_segments(s)
-            }
-            SegmentName::Fs => {
-                s.fs = value;
-                self.with_segments(s)
-            }
-            SegmentName::Gs => {
-                s.gs = value;
-                self.with_segments(s)
-            }
-            SegmentName::Ldtr => {
-                s.ldtr = value;
-                self.with_segments(s)
-            }
-            SegmentName::Tr => {
-                s.tr = value;
-                self.with_segments(s)
-            }
-            SegmentName::Cs => {
-                r.cs = value;
-                self.with_registers(r)
-            }
+        if name.is_cs() {
+            let mut r = self.registers;
+            r.cs = value;
+            return self.with_registers(r);
         }
+        self.with_segments(self.segments.with_named(name, value))
+    }
+
+    fn settings(self) -> Settings
+        ensures { λ r. ⌜ r ≡ settingsOf self ⌝ }
+    {
+        let config = self.config;
+        config.settings
+    }
+
+    fn with_config(self, config: Config) -> Machine
+        ensures { λ r. ⌜ r ≡ withConfig self config ⌝ }
+    {
+        let mut next = self;
+        next.config = config;
+        next
+    }
+
+    fn with_settings(self, settings: Settings) -> Machine
+        ensures { λ r. ⌜ r ≡ withSettings self settings ⌝ }
+    {
+        let mut config = self.config;
+        config.settings = settings;
+        self.with_config(config)
     }
 
     // The machine after entry.
     fn entered(self, latched: bool) -> Machine
         ensures { λ r. ⌜ r ≡ enteredMachine self latched ⌝ }
     {
-        let config = self.config;
-        let settings = config.settings;
-        let area = settings.region();
+        let area = self.settings().region();
         let before = self.registers;
         let mut next = self.with_registers(header::entry_registers(before, area.base));
         next.halted = false;
@@ -249,9 +205,7 @@ impl Machine {
         ensures { λ r. ⌜ ((main : List ℕ) → ends r (memories main (now (management .exit)))
             ≡ entry self (memories main (now (management .entry))) saved latched) ⌝ }
     {
-        let config = self.config;
-        let settings = config.settings;
-        header::write(management, settings.header_place(), saved);
+        header::write(management, self.settings().header_place(), saved);
         self.entered(latched).answers(Answer::Entered)
     }
 
@@ -265,15 +219,7 @@ impl Machine {
             ≡ entryAtBoundary self (memories main (now (management .entry))) current interruption) ⌝ }
     {
         let registers = self.registers;
-        let trap = header::trap_of(interruption);
-        let saved = Saved {
-            registers: registers,
-            current: fields::either(self.halted, registers.eip, current),
-            next: registers.eip,
-            trap: trap,
-            smint: false,
-            halted: self.halted,
-        };
+        let saved = header::saved_at_boundary(registers, self.halted, current, interruption);
         self.enter(management, saved, false)
     }
 
@@ -284,9 +230,7 @@ impl Machine {
         if self.inside {
             return false;
         }
-        let config = self.config;
-        let settings = config.settings;
-        if settings.enables_smi() {
+        if self.settings().enables_smi() {
             return fields::any(asserted, self.latched);
         }
         false
@@ -313,15 +257,7 @@ impl Machine {
             ≡ entryBySmint self (memories main (now (management .entry))) next) ⌝ }
     {
         let registers = self.registers;
-        let trap = header::trap_of(Interruption::None);
-        let saved = Saved {
-            registers: registers,
-            current: registers.eip,
-            next: next,
-            trap: trap,
-            smint: true,
-            halted: self.halted,
-        };
+        let saved = header::saved_by_smint(registers, self.halted, next);
         self.enter(management, saved, self.latched)
     }
 
@@ -329,9 +265,7 @@ impl Machine {
     fn resume(self, management: &[u8]) -> Stepped
         ensures { λ r. ⌜ r ≡ resume self (now (management .entry)) ⌝ }
     {
-        let config = self.config;
-        let settings = config.settings;
-        let registers = header::read(management, settings.header_place());
+        let registers = header::read(management, self.settings().header_place());
         let mut next = self.with_registers(registers);
         next.halted = false;
         next.inside = false;
@@ -342,23 +276,23 @@ impl Machine {
     fn permits(self) -> bool
         ensures { λ r. ⌜ r ≡ permitted self ⌝ }
     {
-        let config = self.config;
-        let settings = config.settings;
         let registers = self.registers;
         let level = registers.level;
         if header::level_number(level) == 0 {
-            return settings.allows_opcodes(self.inside);
+            return self.settings().allows_opcodes(self.inside);
         }
         false
     }
 
     // What an opcode asks for, undefined where that is not valid.
     fn operation(self, opcode: u8, modrm: u8) -> Operation
-        ensures { λ r. ⌜ r ≡ cond (valid self (operationOf opcode modrm)) (operationOf opcode modrm) Undefined ⌝ }
+        ensures { λ r. ⌜ r ≡ operationOn self opcode modrm ⌝ }
     {
-        let o = opcodes::decode(opcode, modrm);
+        let settings = self.settings();
+        let edition = settings.edition;
+        let o = opcodes::decode(edition, opcode, modrm);
         if self.permits() {
-            if o.is_allowed(self.inside) {
+            if o.is_allowed(settings, self.inside) {
                 return o;
             }
         }
@@ -369,9 +303,7 @@ impl Machine {
     fn window(self) -> Region
         ensures { λ r. ⌜ r ≡ window self ⌝ }
     {
-        let config = self.config;
-        let settings = config.settings;
-        settings.window(self.inside)
+        self.settings().window(self.inside)
     }
 
     // SVDC, SVLDT and SVTS.
@@ -386,13 +318,9 @@ impl Machine {
         ensures { λ r. ⌜ ends r (memories (now (main .exit)) (now (management .exit)))
             ≡ saved self (memories (now (main .entry)) (now (management .entry))) name address next ⌝ }
     {
-        let window = self.window();
         let s = self.segment(name);
-        if memory::all_there(window, main.len(), address, OPERAND_LENGTH) {
-            memory::store_segment(window, main, management, address, s);
-            return self.advance(next).answers(Answer::Done);
-        }
-        self.answers(Answer::Absent)
+        memory::store_segment(self.window(), main, management, address, s);
+        self.advance(next).answers(Answer::Done)
     }
 
     // RSDC, RSLDT and RSTS.
@@ -406,33 +334,50 @@ impl Machine {
     ) -> Stepped
         ensures { λ r. ⌜ r ≡ restored self (memories (now (main .entry)) (now (management .entry))) name address next ⌝ }
     {
-        let window = self.window();
-        if memory::all_there(window, main.len(), address, OPERAND_LENGTH) {
-            let s = memory::load_segment(window, main, management, address);
-            return self.with_segment(name, s)
-                .advance(next)
-                .answers(Answer::Done);
-        }
-        self.answers(Answer::Absent)
+        let s = memory::load_segment(self.window(), main, management, address);
+        self.with_segment(name, s)
+            .advance(next)
+            .answers(Answer::Done)
+    }
+
+    // RDSHR.
+    fn store_smhr(self, main: &mut [u8], management: &mut [u8], address: u32, next: u32) -> Stepped
+        ensures { λ r. ⌜ ends r (memories (now (main .exit)) (now (management .exit)))
+            ≡ smhrStored self (memories (now (main .entry)) (now (management .entry))) address next ⌝ }
+    {
+        let smhr = self.settings().smhr();
+        memory::store_word(self.window(), main, management, address, smhr);
+        self.advance(next).answers(Answer::Done)
+    }
+
+    // WRSHR.
+    fn load_smhr(self, main: &[u8], management: &[u8], address: u32, next: u32) -> Stepped
+        ensures { λ r. ⌜ r ≡ smhrLoaded self (memories (now (main .entry)) (now (management .entry))) address next ⌝ }
+    {
+        let smhr = memory::load_word(self.window(), main, management, address);
+        let settings = self.settings().with_smhr(smhr);
+        self.with_settings(settings)
+            .advance(next)
+            .answers(Answer::Done)
     }
 
     // The machine after a port access, and the answer.
     fn ported(self, access: Accessed) -> Stepped
         ensures { λ r. ⌜ r ≡ portStep self access ⌝ }
     {
-        let mut next = self;
         let config = access.config;
-        next.config = config;
         let answer = access.answer;
-        next.answers(answer)
+        self.with_config(config).answers(answer)
     }
 
     // ---- the steps
 
     fn reset(self) -> Stepped
-        ensures { λ r. ⌜ r ≡ resetStep ⌝ }
+        ensures { λ r. ⌜ r ≡ resetStep self ⌝ }
     {
-        Machine::initial().answers(Answer::Done)
+        let settings = self.settings();
+        let edition = settings.edition;
+        Machine::initial(edition).answers(Answer::Done)
     }
 
     fn load_registers(
@@ -499,6 +444,29 @@ impl Machine {
         self.ported(config.write(port, value, self.inside))
     }
 
+    // An operation whose operand, if it has one, is all there.
+    fn operate(
+        self,
+        main: &mut [u8],
+        management: &mut [u8],
+        o: Operation,
+        address: u32,
+        next: u32,
+    ) -> Stepped
+        ensures { λ r. ⌜ ends r (memories (now (main .exit)) (now (management .exit)))
+            ≡ operated self (memories (now (main .entry)) (now (management .entry))) o address next ⌝ }
+    {
+        match o {
+            Operation::Save(name) => self.save(main, management, name, address, next),
+            Operation::Restore(name) => self.restore(main, management, name, address, next),
+            Operation::Rdshr => self.store_smhr(main, management, address, next),
+            Operation::Wrshr => self.load_smhr(main, management, address, next),
+            Operation::Smint => self.enter_by_smint(management, next),
+            Operation::Rsm => self.resume(management),
+            Operation::Undefined => self.answers(Answer::Invalid),
+        }
+    }
+
     fn opcode(
         self,
         main: &mut [u8],
@@ -511,13 +479,11 @@ impl Machine {
         ensures { λ r. ⌜ ends r (memories (now (main .exit)) (now (management .exit)))
             ≡ opcodeStep self (memories (now (main .entry)) (now (management .entry))) opcode modrm address next ⌝ }
     {
-        match self.operation(opcode, modrm) {
-            Operation::Save(name) => self.save(main, management, name, address, next),
-            Operation::Restore(name) => self.restore(main, management, name, address, next),
-            Operation::Smint => self.enter_by_smint(management, next),
-            Operation::Rsm => self.resume(management),
-            Operation::Undefined => self.answers(Answer::Invalid),
+        let o = self.operation(opcode, modrm);
+        if memory::all_there(self.window(), main.len(), address, o.operand_size()) {
+            return self.operate(main, management, o, address, next);
         }
+        self.answers(Answer::Absent)
     }
 
     fn boundary(

@@ -67,10 +67,7 @@ storeBytes w x a (b ∷ bs) = storeBytes w (storeByte w x a b) (a + 1) bs
 abbrev pub store : Region → Memories → ℕ → ℕ → ℕ → Memories
 store w x a count v = storeBytes w x a (bytesOf count v)
 
--- 01, "Opcode": an operand's ten bytes, a descriptor's eight and then a selector's two
-abbrev pub operandLength : ℕ
-operandLength = 10
-
+-- 01, "Opcode": a segment's ten bytes, a descriptor's eight and then a selector's two
 unfoldable pub segmentAt : Region → Memories → ℕ → Segment
 segmentAt w x a = segment (load w x (a + 8) 2) (load w x a 8)
 

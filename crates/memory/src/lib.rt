@@ -242,6 +242,21 @@ pub fn write(
     }
 }
 
+// The number in the four bytes from an address on.
+pub fn load_word(window: Region, main: &[u8], management: &[u8], address: u32) -> u32
+    ensures { λ r. ⌜ r ≡ load window (memories (now (main .entry)) (now (management .entry))) address 4 ⌝ }
+{
+    load_at(window, main, management, address as u64, 4) as u32
+}
+
+// Stores a number's four bytes from an address on.
+pub fn store_word(window: Region, main: &mut [u8], management: &mut [u8], address: u32, value: u32)
+    ensures { λ r. ⌜ memories (now (main .exit)) (now (management .exit))
+        ≡ store window (memories (now (main .entry)) (now (management .entry))) address 4 value ⌝ }
+{
+    store_at(window, main, management, address as u64, 4, value as u64);
+}
+
 // The segment in the ten bytes from an address on.
 pub fn load_segment(window: Region, main: &[u8], management: &[u8], address: u32) -> Segment
     ensures { λ r. ⌜ r ≡ segmentAt window (memories (now (main .entry)) (now (management .entry))) address ⌝ }

@@ -1,22 +1,15 @@
 ghost use mathlib.Core.Path.{_≡_};
-ghost use Rattle.opcodes.specs.Decode.{dataSegment, svdc, rsdc, plain, grouped, operationOf, allowed};
-
-// A segment register by its name.
-pub enum SegmentName {
-    Es,
-    Cs,
-    Ss,
-    Ds,
-    Fs,
-    Gs,
-    Ldtr,
-    Tr,
-}
+ghost use Rattle.opcodes.specs.Decode.{dataSegment, svdc, rsdc, plain, later, grouped, smintOpcode, operationOf, operandSize, allowed};
+use config::Edition;
+use config::Settings;
+use segments::SegmentName;
 
 // What an opcode asks for.
 pub enum Operation {
     Save(SegmentName),
     Restore(SegmentName),
+    Rdshr,
+    Wrshr,
     Smint,
     Rsm,
     Undefined,
@@ -65,9 +58,20 @@ fn plain_of(field: u8, o: Operation) -> Operation
     if field == 0 { o } else { Operation::Undefined }
 }
 
-// The opcodes 78h to 7Dh.
-fn grouped_of(opcode: u8, field: u8) -> Operation
-    ensures { λ r. ⌜ r ≡ grouped opcode field ⌝ }
+// An operation that only the later edition has.
+fn later_of(edition: Edition, o: Operation) -> Operation
+    ensures { λ r. ⌜ r ≡ later edition o ⌝ }
+{
+    if edition.is_mii() {
+        o
+    } else {
+        Operation::Undefined
+    }
+}
+
+// The opcodes that have an operand in memory.
+fn grouped_of(edition: Edition, opcode: u8, field: u8) -> Operation
+    ensures { λ r. ⌜ r ≡ grouped edition opcode field ⌝ }
 {
     match opcode {
         0x78 => svdc_of(field),
@@ -76,15 +80,23 @@ fn grouped_of(opcode: u8, field: u8) -> Operation
         0x7B => plain_of(field, Operation::Restore(SegmentName::Ldtr)),
         0x7C => plain_of(field, Operation::Save(SegmentName::Tr)),
         0x7D => plain_of(field, Operation::Restore(SegmentName::Tr)),
+        0x36 => later_of(edition, plain_of(field, Operation::Rdshr)),
+        0x37 => later_of(edition, plain_of(field, Operation::Wrshr)),
         _ => Operation::Undefined,
     }
 }
 
-// The operation that the byte after 0Fh and ModRM ask for.
-pub fn decode(opcode: u8, modrm: u8) -> Operation
-    ensures { λ r. ⌜ r ≡ operationOf opcode modrm ⌝ }
+fn smint_opcode(edition: Edition) -> u8
+    ensures { λ r. ⌜ r ≡ smintOpcode edition ⌝ }
 {
-    if opcode == 0x7E {
+    if edition.is_mii() { 0x38 } else { 0x7E }
+}
+
+// The operation that the byte after 0Fh and ModRM ask for.
+pub fn decode(edition: Edition, opcode: u8, modrm: u8) -> Operation
+    ensures { λ r. ⌜ r ≡ operationOf edition opcode modrm ⌝ }
+{
+    if opcode == smint_opcode(edition) {
         return Operation::Smint;
     }
     if opcode == 0xAA {
@@ -93,19 +105,51 @@ pub fn decode(opcode: u8, modrm: u8) -> Operation
     if modrm / 64 == 3 {
         return Operation::Undefined;
     }
-    grouped_of(opcode, modrm / 8 % 8)
+    grouped_of(edition, opcode, modrm / 8 % 8)
 }
 
 impl Operation {
-    // Whether the operation may run inside, or outside, management mode.
-    pub fn is_allowed(self, inside: bool) -> bool
-        ensures { λ r. ⌜ r ≡ allowed inside self ⌝ }
+    // The bytes of the operand in memory; none is 0.
+    pub fn operand_size(self) -> u8
+        ensures { λ r. ⌜ r ≡ operandSize self ⌝ }
+    {
+        match self {
+            Operation::Save(_) => 10,
+            Operation::Restore(_) => 10,
+            Operation::Rdshr => 4,
+            Operation::Wrshr => 4,
+            Operation::Smint => 0,
+            Operation::Rsm => 0,
+            Operation::Undefined => 0,
+        }
+    }
+
+    // Whether the operation may run inside, or outside, management mode with these settings.
+    pub fn is_allowed(self, s: Settings, inside: bool) -> bool
+        ensures { λ r. ⌜ r ≡ allowed s inside self ⌝ }
     {
         match self {
             Operation::Save(_) => true,
             Operation::Restore(_) => true,
-            Operation::Smint => !inside,
-            Operation::Rsm => inside,
+            Operation::Rdshr => true,
+            Operation::Wrshr => {
+                if inside {
+                    return true;
+                }
+                !s.smi_lock()
+            }
+            Operation::Smint => {
+                if inside {
+                    return false;
+                }
+                s.fits_header()
+            }
+            Operation::Rsm => {
+                if inside {
+                    return s.fits_header();
+                }
+                false
+            }
             Operation::Undefined => false,
         }
     }

@@ -22,7 +22,7 @@ within-has r a e =
     let q = and-eq-true-iff (usable r) _ .0 (p .0) in
     record { in-usable = q .0; low = omega (arith, leb-true _ a (q .1)); high = omega (arith, ltb-true a _ (p .1)) }
 
-within-is : (r : Region) (a : ℕ) → Within r a → within r a ≡ true
+pub within-is : (r : Region) (a : ℕ) → Within r a → within r a ≡ true
 unfolding within
 within-is r a h = simp (h .in-usable, le-leb (r .base) a (h .low), lt-ltb a (r .base + sizeOf (r .code)) (h .high))
 

@@ -1,44 +1,22 @@
 use borrow.Author.Needs.{needs}
 use Rattle.machine.proofs.Machine.anew.Statement.{statement}
 use Rattle.machine.proofs.Machine.anew.Tie as tie
+use Rattle.machine.proofs.Machine.anew.Reads as reads
+use Rattle.machine.proofs.Machine.anew.Lts as lts
+use Rattle.memory.proofs.fresh.Reads as fresh-reads
+use Rattle.segments.proofs.Segments.anew.Reads as anew-reads
 
+-- src/lib.rt:100:17
 fresh-requires : tie.Need-fresh-requires
 fresh-requires c κs = search needs
 
-fresh-requires-2 : tie.Need-fresh-requires-2
-fresh-requires-2 c κs = search needs
+-- src/lib.rt:104:13
+anew-requires : tie.Need-anew-requires
+anew-requires c κs = search needs
 
-fresh-requires-3 : tie.Need-fresh-requires-3
-fresh-requires-3 c κs = search needs
-
-fresh-requires-4 : tie.Need-fresh-requires-4
-fresh-requires-4 c κs = search needs
-
-fresh-requires-5 : tie.Need-fresh-requires-5
-fresh-requires-5 c κs = search needs
-
-fresh-requires-6 : tie.Need-fresh-requires-6
-fresh-requires-6 c κs = search needs
-
-fresh-requires-7 : tie.Need-fresh-requires-7
-fresh-requires-7 c κs = search needs
-
-fresh-requires-8 : tie.Need-fresh-requires-8
-fresh-requires-8 c κs = search needs
-
+-- src/lib.rt:89:5
 returns : tie.Need-returns
-returns c = rw ((c .before .before .before .before .before .before .before .fresh .ensures), (c .before .before .before .before .before .before .fresh2 .ensures), (c .before .before .before .before .before .fresh3 .ensures), (c .before .before .before .before .fresh4 .ensures), (c .before .before .before .fresh5 .ensures), (c .before .before .fresh6 .ensures), (c .before .fresh7 .ensures), (c .fresh8 .ensures))
+returns c = rw ((c .before .fresh .ensures), (c .anew .ensures))
 
 pub anew-spec : {M : Type 1} → statement M
-anew-spec =
-    tie.close
-    (tie.spec
-    fresh-requires
-    fresh-requires-2
-    fresh-requires-3
-    fresh-requires-4
-    fresh-requires-5
-    fresh-requires-6
-    fresh-requires-7
-    fresh-requires-8
-    returns)
+anew-spec = tie.close (tie.spec fresh-requires anew-requires returns)

@@ -43,8 +43,8 @@ returns-2 c =
     let called = c .before .before .before .before in
     let told = called .before .before .before in
     let asked = told .before .before in
-    called .perform .ensures
-    ∙ step-allowed _ _ _ _ _ (asked .before .before .before .anew .ensures) (asked .first-refusal .ensures) (told .enum-told .given .1)
+    step-allowed _ _ _ _ _ (asked .before .before .before .anew .ensures) (asked .first-refusal .ensures) (told .enum-told .given .1) _
+    (called .perform .ensures)
 
 pub step-spec : {M : Type 1} → statement M
 step-spec =

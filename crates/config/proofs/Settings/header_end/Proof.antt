@@ -1,0 +1,67 @@
+use Rattle.config.specs.Settings.{headerEnd}
+use Rattle.region.specs.declared.Region.{Region}
+use Rattle.region.specs.Region.{sizeOf}
+use Prim.Native.Nat.{_+_}
+use native.Mathlib.Omega.{arith}
+use mathlib.Core.Path.{sym, ap, _∙_}
+use borrow.Author.Needs.{needs}
+use Rattle.config.proofs.Settings.header_end.Statement.{statement}
+use Rattle.config.proofs.Settings.header_end.Tie as tie
+use Rattle.config.proofs.Settings.header_end.Reads as reads
+use Rattle.config.proofs.Settings.header_end.Lts as lts
+use Rattle.config.proofs.Edition.is_mii.Reads as is-mii-reads
+use Rattle.config.proofs.Settings.region.Reads as region-reads
+use Rattle.config.proofs.Settings.smhr.Reads as smhr-reads
+use Rattle.region.proofs.size_of.Reads as size-of-reads
+
+-- src/lib.rt:241:12
+is-mii-requires : tie.Need-is-mii-requires
+is-mii-requires c κs = search needs
+
+-- src/lib.rt:242:20
+smhr-requires : tie.Need-smhr-requires
+smhr-requires c κs = search needs
+
+-- src/lib.rt:242:20
+cast-result : tie.Need-cast-result
+cast-result c = search needs
+
+-- src/lib.rt:242:13
+returns : tie.Need-returns
+unfolding headerEnd
+returns c = (rw (sym (c .before .before .is-mii .ensures) ∙ (c .before .if1 .taken)) (c .smhr .ensures), omega arith)
+
+-- src/lib.rt:244:13
+region-requires : tie.Need-region-requires
+region-requires c κs = search needs
+
+-- src/lib.rt:245:9
+cast-result-2 : tie.Need-cast-result-2
+cast-result-2 c = search needs
+
+-- src/lib.rt:245:25
+size-of-requires : tie.Need-size-of-requires
+size-of-requires c κs = search needs
+
+-- src/lib.rt:245:9
+add-result : tie.Need-add-result
+add-result c = search needs
+
+-- src/lib.rt:236:5
+returns-2 : tie.Need-returns-2
+unfolding headerEnd
+returns-2 c = (rw (sym (c .before .before .before .before .is-mii .ensures) ∙ (c .before .before .before .if1 .left), sym (c .before .before .region .ensures), (c .size-of .ensures .0)), omega (arith, ap (λ (r : Region). r .base) (c .before .before .region .ensures), (c .size-of .ensures .1)))
+
+pub header-end-spec : {M : Type 1} → statement M
+header-end-spec =
+    tie.close
+    (tie.spec
+    is-mii-requires
+    smhr-requires
+    cast-result
+    returns
+    region-requires
+    cast-result-2
+    size-of-requires
+    add-result
+    returns-2)
