@@ -21,20 +21,22 @@ use Rattle.steps.specs.Steps.{isWidth, malformed}
 use Rattle.refusals.specs.declared.Verdict.the-variants.{Allowed}
 use Rattle.refusals.specs.Refusals.{malformedOn, programWhileHalted, firstRefusal}
 use Rattle.refusals.proofs.Laws.{taken-allowed}
+use Rattle.config.specs.declared.Edition.the-variants.{Cx486}
 use Rattle.config.specs.declared.Settings.{Settings}
-use Rattle.config.specs.Settings.{regionIn, enabled, headerPlace, lockedBits, keptBits, byteOf, withByte, merged, written}
-use Rattle.config.specs.Ports.{indexed, answering, internal, portWrite}
-use Rattle.config.proofs.Lock.{place-ends}
+use Rattle.config.specs.Settings.{regionIn, headerFits, enabled, headerPlace, lockedBits, keptBits, byteOf, withByte, merged, written}
+use Rattle.config.specs.Ports.{indexed, answering, alwaysInternal, internal, portWrite}
+use Rattle.config.proofs.Place.{fits-always}
 use Rattle.header.specs.declared.Level.{Level}
 use Rattle.header.specs.declared.Level.the-variants.{Zero}
 use Rattle.header.specs.declared.Registers.{Registers}
-use Rattle.header.specs.Header.{levelNumber, sizeBits, cut, headerBytes}
+use Rattle.header.specs.Header.{headerLength, levelNumber, sizeBits, cut, headerBytes}
 use Rattle.header.specs.Entry.{entryCr0, entryCs}
 use Rattle.machine.specs.declared.Machine.{Machine}
 use Rattle.memory.specs.Memory.{segment}
-use Rattle.machine.specs.Machines.{machine, resetSegments}
+use Rattle.segments.specs.Segments.{resetSegments}
+use Rattle.machine.specs.Machines.{machine, settingsOf}
 use Rattle.machine.specs.Outcomes.{ends}
-use Rattle.machine.specs.Service.{settingsOf, savedAtBoundary}
+use Rattle.machine.specs.Service.{savedAtBoundary}
 use Rattle.machine.specs.Steps.{portStep, performed, stepped}
 use Rattle.isolation.specs.Service.{Entering, recorded, Entry}
 use Rattle.isolation.specs.Service.Entering.{at-boundary}
@@ -79,7 +81,7 @@ names-true r base code t =
 
 writes-ccr1 : (b : Armed) (value : ℕ) → stepped (b .machine) (b .memory) (PortWrite 0x23 value)
     ≡ ends (portStep (b .machine) (answering (indexed (written (settingsOf (b .machine)) 0xc1 value false) 0xc1 false) Done)) (b .memory)
-unfolding malformedOn programWhileHalted performed portWrite internal
+unfolding malformedOn programWhileHalted performed portWrite alwaysInternal internal
 writes-ccr1 b value =
     let s = PortWrite 0x23 value in
     performs (b .machine) (b .memory) s
@@ -89,17 +91,22 @@ writes-ccr1 b value =
 -- ---- the step that enters
 
 module _ {current : ℕ} {i : Interruption} (b : Before current i) (u : usable (regionBefore b) ≡ true) where
+  fits : (headerFits (settingsOf (b .machine)) ≡ true) × (headerPlace (settingsOf (b .machine)) + headerLength ≡ sizeOf (regionBefore b .code))
+  fits = fits-always (settingsOf (b .machine)) (b .edition) u
+
   enters : Enters b
   unfolding enabled
   enters =
-      enters-where-due (b .machine) (b .memory) (Boundary 1 current i) (b .allowed) (at-boundary (b .outside) (rw (b .on, b .closed, u)) refl)
+      enters-where-due (b .machine) (b .memory) (Boundary 1 current i) (b .allowed)
+      (at-boundary (b .outside) (rw (b .on, b .closed, u, fits .0)) refl)
 
   entry-of : Entry (b .machine) (b .memory) (Boundary 1 current i) (outcome b)
   entry-of = enters-as-stated (b .machine) (b .memory) (Boundary 1 current i) enters
 
   stores : Stores b (fromEnd b 48) (headerBytes (savedAtBoundary (b .machine) current i))
-  unfolding headerPlace
-  stores = go (entry-of .by) (entry-of .management)
+  stores =
+      let place : headerPlace (settingsOf (b .machine)) ≡ fromEnd b 48 = omega (arith, fits .1) in
+      go (entry-of .by) (rw place at (entry-of .management))
     where
       go : (by : Entering (b .machine) (Boundary 1 current i)) → Stores b (fromEnd b 48) (headerBytes (recorded (b .machine) by))
           → Stores b (fromEnd b 48) (headerBytes (savedAtBoundary (b .machine) current i))
@@ -119,8 +126,19 @@ module _ {current : ℕ} {i : Interruption} (b : Before current i) (u : usable (
 
 -- the lock, and SMAR of a base and a code
 abbrev settings : (ccr1 base code : ℕ) → Settings
-settings ccr1 base code =
-    record { ccr1 = ccr1; ccr3 = 1; high = base / 16777216; middle = base / 65536 % 256; low = base / 4096 % 16 * 16 + code }
+settings ccr1 base code = record {
+  edition = Cx486;
+  ccr1 = ccr1;
+  ccr3 = 1;
+  high = base / 16777216;
+  middle = base / 65536 % 256;
+  low = base / 4096 % 16 * 16 + code;
+  ccr6 = 0;
+  smhr0 = 0;
+  smhr1 = 0;
+  smhr2 = 0;
+  smhr3 = 0;
+}
 
 -- a machine that is awake, outside the mode and armed at C1h
 abbrev sample : Registers → Settings → Machine
@@ -157,6 +175,7 @@ abbrev before : Registers → (base code current : ℕ) (i : Interruption) → m
 before r base code current i formed = record {
   machine = sample r (settings 2 base code);
   memory = filled 0;
+  edition = refl;
   allowed = takes current i formed;
   outside = refl;
   on = refl;
@@ -178,7 +197,7 @@ is-usable = refl
 test : Line → Bool
 test (Smar high middle low base code size) = names (regionOf high middle low) base code && eqb (sizeOf code) size
 test (IsUsable base code answer) = Bool·beq (usable (region base code)) answer
-test (LockedCcr1 before value after) = eqb (merged (lockedBits 0xc1) before value) after
+test (LockedCcr1 before value after) = eqb (merged (lockedBits Cx486 0xc1) before value) after
 test (HeaderAt base code first last) =
     names (named base code) base code && (usable (region base code) && (eqb (sizeOf code - 48) first && eqb (first + 48) (last + 1)))
 test (EntryCs base code selector) =
@@ -191,7 +210,7 @@ test (Header r current i bytes) =
 
 -- a row that passes states what holds
 sound : (l : Line) → test l ≡ true → states l
-unfolding test written keptBits byteOf withByte
+unfolding test written keptBits lockedBits byteOf withByte
 sound (Smar high middle low base code size) t =
     let p = and-eq-true-iff (names (regionOf high middle low) base code) (eqb (sizeOf code) size) .0 t in
     (names-true (regionOf high middle low) base code (p .0), eqb-true _ _ (p .1))
@@ -225,7 +244,7 @@ sound (EntryCr0 cr0 after) t = (
 sound (LevelWord level selector word) t = (
   record { before = before (registers 0 level selector) 0x68000 3 0x1000 None refl; given = (is-usable, refl, refl) },
   λ current i b u e f.
-      let h = place-ends (settingsOf (b .machine)) u in
+      let h = fits b u .1 in
       (enters b u, level-word b u _ (omega arith) level selector e f ∙ eqb-true _ _ t),
 )
 sound (Header r current i bytes) t =

@@ -14,6 +14,7 @@ use Rattle.steps.specs.declared.Interruption.the-variants.{None, Output}
 use Rattle.steps.specs.declared.Step.the-variants.{PortWrite, Boundary}
 use Rattle.refusals.specs.declared.Verdict.the-variants.{Allowed}
 use Rattle.refusals.specs.Refusals.{wrongSizes, firstRefusal}
+use Rattle.config.specs.declared.Edition.the-variants.{Cx486}
 use Rattle.config.specs.Settings.{useSmi, smac, smiLock, regionIn}
 use Rattle.header.specs.declared.Level.{Level}
 use Rattle.header.specs.declared.Level.the-variants.{Zero, Three}
@@ -21,7 +22,8 @@ use Rattle.header.specs.declared.Registers.{Registers}
 use Rattle.header.specs.Header.{headerBytes}
 use Rattle.machine.specs.declared.Machine.{Machine}
 use Rattle.machine.specs.Outcomes.{Outcome}
-use Rattle.machine.specs.Service.{settingsOf, savedAtBoundary}
+use Rattle.machine.specs.Machines.{settingsOf, editionOf}
+use Rattle.machine.specs.Service.{savedAtBoundary}
 use Rattle.machine.specs.Steps.{stepped}
 use Rattle.isolation.specs.Service.{answerTo, OnlyHeader}
 
@@ -36,7 +38,7 @@ pub data Line : Type 0 where
   IsUsable : (base code : ℕ) (answer : Bool) → Line
   -- of one step, a write to port 23h: CCR1 before it, the byte written, and CCR1 after
   LockedCcr1 : (before value after : ℕ) → Line
-  -- The rest are of one step, a boundary with SMI asserted, which enters: of every such step of every machine with what is given.
+  -- The rest are of one step, a boundary with SMI asserted, which enters: of every such step of every 486 machine with what is given.
   -- base and code; the first and the last byte of the header in management memory
   HeaderAt : (base code first last : ℕ) → Line
   -- base and code; the CS selector after it
@@ -64,11 +66,12 @@ pub record ArmedExample (ccr1 : ℕ) : Type 0 where
   pub before : Armed
   pub given : settingsOf (before .machine) .ccr1 ≡ ccr1
 
--- Before a boundary with SMI asserted: any machine outside the mode with USE_SMI 1 and SMAC 0, halted or not, and any memories of the
--- right sizes, where the step is not malformed.
+-- Before a boundary with SMI asserted: any machine of the 486 edition outside the mode with USE_SMI 1 and SMAC 0, halted or not, and any
+-- memories of the right sizes, where the step is not malformed.
 pub record Before (current : ℕ) (i : Interruption) : Type 0 where
   pub machine : Machine
   pub memory : Memories
+  pub edition : editionOf machine ≡ Cx486
   pub allowed : firstRefusal (machine .halted) memory (Boundary 1 current i) ≡ Allowed
   pub outside : machine .inside ≡ false
   pub on : useSmi (settingsOf machine) ≡ true

@@ -1,11 +1,11 @@
 // The player for Rust and C to call: numbers and slices only.
+use config::Edition;
 use lines::Reason;
 use machine::Machine;
 ghost use mathlib.Core.Path.{_≡_};
+ghost use Rattle.config.specs.declared.Edition.the-variants.{Cx486, Mii};
 ghost use Rattle.memory.specs.Memory.{memories};
-ghost use Rattle.machine.specs.Machines.{resetMachine};
-ghost use Rattle.player.specs.Player.{scriptOf, playing, Leaves};
-ghost use Rattle.export.specs.Export.{reasonNumber};
+ghost use Rattle.export.specs.Export.{reasonNumber, Replays};
 
 fn reason_number(reason: Reason) -> u8
     ensures { λ r. ⌜ r ≡ reasonNumber reason ⌝ }
@@ -18,7 +18,26 @@ fn reason_number(reason: Reason) -> u8
     }
 }
 
-// Plays a trace from reset. The result is the count of records; the number of the reason to stop goes to reason.
+// Plays a trace from a machine of an edition after a reset. The result is the count of records; the number of the reason to stop goes to
+// reason.
+fn replay(
+    edition: Edition,
+    trace: &[u8],
+    main: &mut [u8],
+    management: &mut [u8],
+    events: &mut [u64; 10000],
+    reason: &mut u8,
+) -> usize
+    ensures { λ r. ⌜ Replays edition (now (trace .entry)) (memories (now (main .entry)) (now (management .entry)))
+        r (memories (now (main .exit)) (now (management .exit))) (now (events .entry)) (now (events .exit)) (now (reason .exit)) ⌝ }
+{
+    let played = player::play(trace, Machine::initial(edition), main, management, events);
+    let why = played.reason;
+    *reason = reason_number(why);
+    played.count
+}
+
+// The 486 edition.
 #[no_mangle]
 pub extern "C" fn rostuvlad_replay(
     trace: &[u8],
@@ -27,13 +46,23 @@ pub extern "C" fn rostuvlad_replay(
     events: &mut [u64; 10000],
     reason: &mut u8,
 ) -> usize
-    ensures leaves { λ r. ⌜ Leaves (scriptOf (now (trace .entry)))
-        (playing resetMachine (memories (now (main .entry)) (now (management .entry))) (now (trace .entry)))
-        r (memories (now (main .exit)) (now (management .exit))) (now (events .entry)) (now (events .exit)) ⌝ }
-    ensures reason { λ r. ⌜ now (reason .exit) ≡ reasonNumber (scriptOf (now (trace .entry)) .reason) ⌝ }
+    ensures { λ r. ⌜ Replays Cx486 (now (trace .entry)) (memories (now (main .entry)) (now (management .entry)))
+        r (memories (now (main .exit)) (now (management .exit))) (now (events .entry)) (now (events .exit)) (now (reason .exit)) ⌝ }
 {
-    let played = player::play(trace, Machine::initial(), main, management, events);
-    let why = played.reason;
-    *reason = reason_number(why);
-    played.count
+    replay(Edition::Cx486, trace, main, management, events, reason)
+}
+
+// The later edition.
+#[no_mangle]
+pub extern "C" fn rostuvlad_replay_mii(
+    trace: &[u8],
+    main: &mut [u8],
+    management: &mut [u8],
+    events: &mut [u64; 10000],
+    reason: &mut u8,
+) -> usize
+    ensures { λ r. ⌜ Replays Mii (now (trace .entry)) (memories (now (main .entry)) (now (management .entry)))
+        r (memories (now (main .exit)) (now (management .exit))) (now (events .entry)) (now (events .exit)) (now (reason .exit)) ⌝ }
+{
+    replay(Edition::Mii, trace, main, management, events, reason)
 }

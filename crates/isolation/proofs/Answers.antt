@@ -7,9 +7,10 @@ use Rattle.steps.specs.declared.Answer.{Answer}
 use Rattle.steps.specs.Answers.{numberOf, refusal}
 use Rattle.config.specs.declared.Config.{Config}
 use Rattle.config.specs.declared.Accessed.{Accessed}
-use Rattle.config.specs.Settings.{smiLock, SameLocked}
+use Rattle.config.specs.Settings.{smiLock, SameLocked, withByte, written}
+use Rattle.config.specs.Locked.{SettingsFit}
 use Rattle.config.specs.Ports.{answering, indexed, internal, portRead, portWrite}
-use Rattle.config.proofs.Lock.{locked-refl, written-locked}
+use Rattle.config.proofs.Lock.{locked-refl, written-locked, written-fits}
 use Rattle.machine.specs.declared.Machine.{Machine}
 use Rattle.machine.specs.declared.Stepped.{Stepped}
 use Rattle.machine.specs.Service.{passed}
@@ -31,23 +32,32 @@ module _ (c : Config) where
   read-keeps port =
       let P : Accessed → Type 0 = λ p. Plain (p .answer) × (p .config .settings ≡ c .settings) in
       either P (eqb port 0x23 && c .armed)
-      (λ h. either (λ (a : Answer). P (answering (indexed (c .settings) (c .index) false) a)) (internal (c .index))
+      (λ h. either (λ (a : Answer). P (answering (indexed (c .settings) (c .index) false) a)) (internal (c .settings) (c .index))
       (λ k. (plain refl refl refl, refl)) (λ k. (plain refl refl refl, refl)))
       (λ h. (plain refl refl refl, refl))
 
-  -- a port write too, outside the mode with the lock set as far as the lock reaches
-  pub write-keeps : (port v : ℕ) (inside : Bool) → let p = portWrite c port v inside in
-      Plain (p .answer) × (inside ≡ false → smiLock (c .settings) ≡ true → SameLocked (p .config .settings) (c .settings))
-  unfolding portWrite
+  -- a port write too, outside the mode with the lock set as far as the lock reaches; bytes stay bytes, and the edition stays
+  abbrev pub Kept : Bool → Accessed → Type 0
+  Kept inside p =
+      Plain (p .answer)
+      × (inside ≡ false → smiLock (c .settings) ≡ true → SameLocked (p .config .settings) (c .settings))
+      × (SettingsFit (c .settings) → SettingsFit (p .config .settings))
+      × (p .config .settings .edition ≡ c .settings .edition)
+
+  pub write-keeps : (port v : ℕ) (inside : Bool) → Kept inside (portWrite c port v inside)
+  unfolding portWrite written withByte
   write-keeps port v inside =
-      let P : Accessed → Type 0
-      = λ p. Plain (p .answer) × (inside ≡ false → smiLock (c .settings) ≡ true → SameLocked (p .config .settings) (c .settings)) in
-      either P (eqb port 0x22) (λ h. (plain refl refl refl, λ o l. locked-refl))
-      (λ h. either P (eqb port 0x23 && c .armed)
-      (λ k. either P (internal (c .index))
-      (λ n. (plain refl refl refl, λ o l. rw o (written-locked (c .settings) (c .index) v l)))
-      (λ n. (plain refl refl refl, λ o l. locked-refl)))
-      (λ k. (plain refl refl refl, λ o l. locked-refl)))
+      either (Kept inside) (eqb port 0x22) (λ h. (plain refl refl refl, λ o l. locked-refl, λ f. f, refl))
+      (λ h. either (Kept inside) (eqb port 0x23 && c .armed)
+      (λ k. either (Kept inside) (internal (c .settings) (c .index))
+      (λ n. (
+        plain refl refl refl,
+        λ o l. rw o (written-locked (c .settings) (c .index) v l),
+        written-fits (c .settings) (c .index) v inside,
+        refl,
+      ))
+      (λ n. (plain refl refl refl, λ o l. locked-refl, λ f. f, refl)))
+      (λ k. (plain refl refl refl, λ o l. locked-refl, λ f. f, refl)))
 
 -- a boundary that takes no SMI gives a plain answer and, outside the mode, leaves the machine
 pub passes : (m : Machine) (asserted : Bool)

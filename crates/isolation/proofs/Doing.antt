@@ -5,7 +5,7 @@ use Prim.Native.Nat.{ℕ}
 use lib.Dec.{eqb}
 use borrow.Author.Tests.{not-true}
 use Rattle.region.specs.Region.{usable}
-use Rattle.memory.specs.Memory.{Memories, Reached, there, operandLength, reads, writes}
+use Rattle.memory.specs.Memory.{Memories, Reached, allThere, there, reads, writes}
 use Rattle.steps.specs.declared.Answer.{Answer}
 use Rattle.steps.specs.declared.Answer.the-variants.{WrongSize, Malformed, WhileHalted, Invalid, Absent}
 use Rattle.steps.specs.declared.Step.{Step}
@@ -15,17 +15,18 @@ use Rattle.steps.specs.Answers.{numberOf, refusal}
 use Rattle.refusals.specs.declared.Verdict.{Verdict}
 use Rattle.refusals.specs.Refusals.{wrongSizes, malformedOn, programWhileHalted, firstRefusal}
 use Rattle.refusals.proofs.Laws.{Taken}
-use Rattle.config.specs.Settings.{useSmi, regionIn, enabled, opcodesAllowed, smac}
+use Rattle.config.specs.Settings.{useSmi, regionIn, headerFits, enabled, opcodesAllowed, smac}
+use Rattle.config.proofs.Place.{enabled-has}
 use Rattle.opcodes.specs.declared.Operation.{Operation}
-use Rattle.opcodes.specs.declared.Operation.the-variants.{Save, Restore, Smint, Rsm, Undefined}
-use Rattle.opcodes.specs.Decode.{operationOf}
+use Rattle.opcodes.specs.declared.Operation.the-variants.{Save, Restore, Rdshr, Wrshr, Smint, Rsm, Undefined}
+use Rattle.opcodes.specs.Decode.{operationOf, operandSize}
 use Rattle.header.specs.Header.{levelNumber}
 use Rattle.machine.specs.declared.Machine.{Machine}
-use Rattle.machine.specs.declared.Stepped.{Stepped}
+use Rattle.machine.specs.Machines.{settingsOf, editionOf}
 use Rattle.machine.specs.Outcomes.{Outcome, gives, ends, refused}
-use Rattle.machine.specs.Service.{settingsOf, entry, taken, boundaryStep, resume}
-use Rattle.machine.specs.Steps.{window, permitted, valid, saved, restored, operated, opcodeStep, performed, decided, stepped}
-use Rattle.isolation.specs.Refusals.{invalidOpcode, hasOperand, absentByte, calledFor}
+use Rattle.machine.specs.Service.{entry, taken, boundaryStep, resume}
+use Rattle.machine.specs.Steps.{window, permitted, valid, operationOn, saved, restored, smhrStored, smhrLoaded, operated, withOperand, opcodeStep, performed, decided, stepped}
+use Rattle.isolation.specs.Refusals.{invalidOpcode, absentByte, calledFor}
 use Rattle.isolation.specs.Service.{Entering, recorded, latchAfter, Resuming}
 use Rattle.isolation.specs.Service.Entering.{at-boundary, by-smint}
 use Rattle.isolation.specs.Service.Resuming.{by-rsm}
@@ -37,6 +38,7 @@ pub record Able (m : Machine) (x : Memories) : Type 0 where
   pub sizes : wrongSizes x ≡ false
   pub on : useSmi (settingsOf m) ≡ true
   pub usable : usable (regionIn (settingsOf m)) ≡ true
+  pub fits : headerFits (settingsOf m) ≡ true
 
 -- an outcome of the step s from m and x, and the number that it is refused by, or 0
 pub data Does (m : Machine) (x : Memories) (s : Step) : Outcome → ℕ → Type 0 where
@@ -56,30 +58,27 @@ taken-where m asserted e =
     (not-true (m .inside) (q .0), q .1, p .1)
 
 module _ (m : Machine) (x : Memories) where
-  operated-does : (op modrm a next : ℕ) (o : Operation) → operationOf op modrm ≡ o → wrongSizes x ≡ false → valid m o ≡ true
-      → Does m x (Opcode op modrm a next) (operated m x o a next) (cond (hasOperand o && not (there (window m) x a operandLength)) 5 0)
-  unfolding operated saved restored resume valid permitted opcodesAllowed
-  operated-does op modrm a next (Save name) d z e =
-      across (Does m x (Opcode op modrm a next)) (there (window m) x a operandLength)
-      (λ k. Does.neither _ (plain refl refl refl)) (λ k. Does.refuses Absent refl)
-  operated-does op modrm a next (Restore name) d z e =
-      across (λ (r : Stepped) (n : ℕ). Does m x (Opcode op modrm a next) (ends r x) n) (there (window m) x a operandLength)
-      (λ k. Does.neither _ (plain refl refl refl)) (λ k. Does.refuses Absent refl)
+  -- a valid operation whose operand is there
+  operated-does : (op modrm a next : ℕ) (o : Operation) → operationOf (editionOf m) op modrm ≡ o → wrongSizes x ≡ false → valid m o ≡ true
+      → Does m x (Opcode op modrm a next) (operated m x o a next) 0
+  unfolding operated saved restored smhrStored smhrLoaded resume valid permitted opcodesAllowed
+  operated-does op modrm a next (Save name) d z e = Does.neither _ (plain refl refl refl)
+  operated-does op modrm a next (Restore name) d z e = Does.neither _ (plain refl refl refl)
+  operated-does op modrm a next Rdshr d z e = Does.neither _ (plain refl refl refl)
+  operated-does op modrm a next Wrshr d z e = Does.neither _ (plain refl refl refl)
   operated-does op modrm a next Smint d z e =
       let t = settingsOf m in
-      let may = and-eq-true-iff (permitted m) (not (m .inside)) .0 e .0 in
-      let p = and-eq-true-iff (eqb (levelNumber (m .registers .level)) 0) (opcodesAllowed t (m .inside)) .0 may .1 in
+      let may = and-eq-true-iff (permitted m) (not (m .inside) && headerFits t) .0 e in
+      let p = and-eq-true-iff (eqb (levelNumber (m .registers .level)) 0) (opcodesAllowed t (m .inside)) .0 (may .0) .1 in
       let q = and-eq-true-iff (useSmi t && usable (regionIn t)) (m .inside || smac t) .0 p .0 in
       let r = and-eq-true-iff (useSmi t) (usable (regionIn t)) .0 q in
-      Does.enters (by-smint d e) (record { sizes = z; on = r .0; usable = r .1 })
+      let fits = and-eq-true-iff (not (m .inside)) (headerFits t) .0 (may .1) .1 in
+      Does.enters (by-smint d e) (record { sizes = z; on = r .0; usable = r .1; fits = fits })
   operated-does op modrm a next Rsm d z e = Does.resumes (by-rsm d e)
   operated-does op modrm a next Undefined d z e = unlike e (and-false (permitted m))
 
   enabled-able : wrongSizes x ≡ false → enabled (settingsOf m) ≡ true → Able m x
-  unfolding enabled
-  enabled-able z e =
-      let p = and-eq-true-iff _ _ .0 e in
-      record { sizes = z; on = and-eq-true-iff _ _ .0 (p .0) .0; usable = p .1 }
+  enabled-able z e = let h = enabled-has (settingsOf m) e in record { sizes = z; on = h .on; usable = h .usable; fits = h .fits }
 
   boundary-does : (smi current : ℕ) (i : Interruption) → wrongSizes x ≡ false
       → Does m x (Boundary smi current i) (boundaryStep m x (eqb smi 1) current i) 0
@@ -91,7 +90,7 @@ module _ (m : Machine) (x : Memories) where
 
   performed-does : (s : Step) → Taken (m .halted) x s
       → Does m x s (performed m x s) (cond (invalidOpcode m s) 4 (cond (absentByte m x s) 5 0))
-  unfolding performed reads writes opcodeStep malformedOn
+  unfolding performed reads writes opcodeStep operationOn withOperand operated allThere malformedOn
   performed-does Reset t = Does.neither _ (plain refl refl refl)
   performed-does (Registers eip eflags cr0 dr7 selector descriptor level writable) t = Does.neither _ (plain refl refl refl)
   performed-does (Read width a) t =
@@ -103,8 +102,11 @@ module _ (m : Machine) (x : Memories) where
   performed-does (PortRead port) t = Does.neither _ (read-keeps (m .config) port .0)
   performed-does (PortWrite port v) t = Does.neither _ (write-keeps (m .config) port v (m .inside) .0)
   performed-does (Opcode op modrm a next) t =
-      across (Does m x (Opcode op modrm a next)) (valid m (operationOf op modrm))
-      (λ k. operated-does op modrm a next (operationOf op modrm) refl (t .sizes) k) (λ k. Does.refuses Invalid refl)
+      let o = operationOf (editionOf m) op modrm in
+      across (λ (q : Operation) (n : ℕ). Does m x (Opcode op modrm a next) (withOperand m x q a next) n) (valid m o)
+      (λ k. across (Does m x (Opcode op modrm a next)) (there (window m) x a (operandSize o))
+      (λ l. operated-does op modrm a next o refl (t .sizes) k) (λ l. Does.refuses Absent refl))
+      (λ k. Does.refuses Invalid refl)
   performed-does (Boundary smi current i) t = boundary-does smi current i (t .sizes)
   performed-does UnnamedBoundary t = unlike refl (t .formed)
   performed-does Halt t = Does.neither _ (plain refl refl refl)

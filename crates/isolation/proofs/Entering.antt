@@ -12,13 +12,14 @@ use Rattle.steps.specs.declared.Step.{Step}
 use Rattle.steps.specs.Answers.{numberOf}
 use Rattle.refusals.proofs.Laws.{sizes}
 use Rattle.config.specs.Settings.{headerPlace}
-use Rattle.config.proofs.Lock.{place-fits}
+use Rattle.config.proofs.Place.{place-room}
 use Rattle.header.specs.declared.Saved.{Saved}
-use Rattle.header.specs.Header.{contents, upward, headerBytes, headed}
+use Rattle.header.specs.Header.{headerLength, contents, upward, headerBytes, headed}
 use Rattle.header.proofs.ReadBack.{length-bytes}
 use Rattle.machine.specs.declared.Machine.{Machine}
 use Rattle.machine.specs.Outcomes.{Outcome, ends}
-use Rattle.machine.specs.Service.{settingsOf, entry, resume}
+use Rattle.machine.specs.Machines.{settingsOf}
+use Rattle.machine.specs.Service.{entry, resume}
 use Rattle.machine.specs.Steps.{stepped}
 use Rattle.isolation.specs.Service.{answerTo, OnlyHeader, Entering, recorded, latchAfter, Resuming}
 use Rattle.isolation.proofs.Cases.{unlike}
@@ -26,11 +27,11 @@ use Rattle.isolation.proofs.Doing.{Able, Does, step-does}
 
 -- ---- the header in a memory
 
-header-long : (s : Saved) → length (headerBytes s) ≡ 48
+header-long : (s : Saved) → length (headerBytes s) ≡ headerLength
 unfolding headerBytes
 header-long s = length-bytes (map (contents s) upward)
 
-pub only-header : (g : List ℕ) (at : ℕ) (s : Saved) → at + 48 ≤ length g → OnlyHeader g (headed g at s) at (headerBytes s)
+pub only-header : (g : List ℕ) (at : ℕ) (s : Saved) → at + headerLength ≤ length g → OnlyHeader g (headed g at s) at (headerBytes s)
 unfolding headed
 only-header g at s h =
     let b = headerBytes s in
@@ -46,8 +47,8 @@ only-header g at s h =
 
 -- ---- the steps that enter
 
-pub room : (m : Machine) (x : Memories) → Able m x → headerPlace (settingsOf m) + 48 ≤ length (x .management)
-room m x able = omega (arith, sizes x (able .sizes) .management-whole, place-fits (settingsOf m) (able .usable))
+pub room : (m : Machine) (x : Memories) → Able m x → headerPlace (settingsOf m) + headerLength ≤ length (x .management)
+room m x able = omega (arith, sizes x (able .sizes) .management-whole, place-room (settingsOf m) (able .usable) (able .fits))
 
 -- an outcome of the step s from m and x that is an entry
 pub record Enters (m : Machine) (x : Memories) (s : Step) (o : Outcome) : Type 0 where

@@ -18,19 +18,24 @@ use Rattle.steps.specs.Steps.{isWidth, kindOf}
 use Rattle.refusals.specs.declared.Verdict.the-variants.{Allowed}
 use Rattle.refusals.specs.Refusals.{wrongSizes, malformedOn, programWhileHalted, firstRefusal}
 use Rattle.refusals.proofs.Laws.{taken-allowed}
-use Rattle.config.specs.Settings.{windowOf, enabled, opcodesAllowed}
-use Rattle.opcodes.specs.Decode.{operationOf}
+use Rattle.config.specs.declared.Edition.{Edition}
+use Rattle.config.specs.declared.Edition.the-variants.{Cx486, Mii}
+use Rattle.config.specs.Settings.{windowOf, headerEnd, headerFits, headerPlace, enabled, opcodesAllowed, withSmhr}
+use Rattle.config.specs.Ports.{internal, alwaysInternal}
+use Rattle.opcodes.specs.declared.Operation.the-variants.{Smint}
+use Rattle.opcodes.specs.Decode.{smintOpcode, operationOf, grouped}
 use Rattle.machine.specs.declared.Machine.{Machine}
-use Rattle.machine.specs.Machines.{withHalted, resetSegments}
+use Rattle.segments.specs.Segments.{resetSegments}
+use Rattle.machine.specs.Machines.{withHalted}
 use Rattle.machine.specs.Outcomes.{ends}
 use Rattle.machine.specs.Steps.{permitted, valid, haltStep, performed, stepped}
 use Rattle.isolation.specs.Widths.{SegmentFits, MachineFits}
 use Rattle.runs.specs.Runs.{run, answersOf}
 use Rattle.isolation.specs.Refusals.{calledFor}
-use Rattle.isolation.specs.Service.{answerTo, Entering}
+use Rattle.isolation.specs.Service.{Entering}
 use Rattle.isolation.specs.Service.Entering.{at-boundary, by-smint}
 use Rattle.isolation.specs.Isolation.{NoReset, UpToEntry, lastNumber}
-use Rattle.isolation.specs.Examples.{sample, locked, underSmac, filled, stepsToEntry, rsm, IsolationExample, ResumptionExample, EntryExample, EntryExamples, RefusalExamples}
+use Rattle.isolation.specs.Examples.{sampleSettings, sample, locked, underSmac, filled, stepsToEntry, rsm, IsolationExamples, EntryExample, EntryExamples, RefusalExamples, LaterExamples, AlikeExample}
 use Rattle.isolation.proofs.Service.{performs, resumed-allowed, enters-where-due, resumes-as-stated, resumes-as-entered}
 use Rattle.isolation.proofs.Tightness.{no-reset-asked, up-to-entry-asked}
 
@@ -38,16 +43,27 @@ use Rattle.isolation.proofs.Tightness.{no-reset-asked, up-to-entry-aske
 abbrev entering : Step
 entering = Boundary 1 0x1000 None
 
-abbrev smint : Step
-smint = Opcode 0x7e 0 0 0x1002
+abbrev smint : Edition → Step
+smint e = Opcode (smintOpcode e) 0 0 0x1002
 
-due-at-boundary : (halted : Bool) → Entering (withHalted locked halted) entering
+-- SMHR lies in the region's midst, so the header fits in either edition
+header-fits : (e : Edition) (ccr1 ccr3 : ℕ) → headerFits (sampleSettings e ccr1 ccr3) ≡ true
+unfolding headerFits headerEnd regionOf sizeOf
+header-fits Cx486 ccr1 ccr3 = refl
+header-fits Mii ccr1 ccr3 = refl
+
+due-at-boundary : (e : Edition) (halted : Bool) → Entering (withHalted (locked e) halted) entering
 unfolding enabled usable regionOf sizeOf
-due-at-boundary halted = at-boundary refl refl refl
+due-at-boundary e halted = at-boundary refl (rw (header-fits e 0x02 0x01)) refl
 
-due-by-smint : Entering underSmac smint
-unfolding operationOf valid permitted opcodesAllowed usable regionOf sizeOf
-due-by-smint = by-smint refl refl
+is-smint : (e : Edition) → operationOf e (smintOpcode e) 0 ≡ Smint
+unfolding operationOf
+is-smint Cx486 = refl
+is-smint Mii = refl
+
+due-by-smint : (e : Edition) → Entering (underSmac e) (smint e)
+unfolding valid permitted opcodesAllowed usable regionOf sizeOf
+due-by-smint e = by-smint (is-smint e) (rw (header-fits e 0x06 0x01))
 
 module _ (g : List ℕ) (long : length g ≡ 65536) where
   abbrev x : Memories
@@ -60,48 +76,67 @@ module _ (g : List ℕ) (long : length g ≡ 65536) where
   pub allowed : (halted : Bool) (s : Step) → malformedOn halted s ≡ false → programWhileHalted halted s ≡ false → firstRefusal halted x s ≡ Allowed
   allowed halted s formed awake = taken-allowed halted x s (record { sizes = whole; formed = formed; awake = awake })
 
-  called-for : (calledFor locked x Halt ≡ 0)
-      × (calledFor locked x UnnamedBoundary ≡ 2)
-      × (calledFor (withHalted locked true) x (PortRead 0x22) ≡ 3)
-      × (calledFor locked x (Opcode 0xaa 0 0 0) ≡ 4)
-      × (calledFor locked x (Read 4 0) ≡ 5)
-  unfolding calledFor malformedOn programWhileHalted operationOf valid permitted opcodesAllowed windowOf within usable regionOf sizeOf absent allThere isWidth
-  called-for = (rw whole, rw whole, rw whole, rw whole, rw whole)
-
   boundary-allowed : (halted : Bool) → firstRefusal halted x entering ≡ Allowed
   unfolding malformedOn programWhileHalted
   boundary-allowed halted = allowed halted entering (and-false halted) (and-false halted)
 
-  smint-allowed : firstRefusal false x smint ≡ Allowed
-  unfolding malformedOn programWhileHalted
-  smint-allowed = allowed false smint refl refl
+  module _ (e : Edition) where
+    called-for : (calledFor (locked e) x Halt ≡ 0)
+        × (calledFor (locked e) x UnnamedBoundary ≡ 2)
+        × (calledFor (withHalted (locked e) true) x (PortRead 0x22) ≡ 3)
+        × (calledFor (locked e) x (Opcode 0xaa 0 0 0) ≡ 4)
+        × (calledFor (locked e) x (Read 4 0) ≡ 5)
+    unfolding calledFor malformedOn programWhileHalted valid permitted opcodesAllowed windowOf within usable regionOf sizeOf absent allThere isWidth
+    called-for = (rw whole, rw whole, rw whole, rw whole, rw whole)
 
-  refuses : refusal (stepped locked x UnnamedBoundary .stepped .answer) ≡ true
-  unfolding stepped firstRefusal malformedOn
-  refuses = rw whole
+    later-called-for :
+        (calledFor (underSmac Mii) x (Opcode 0x36 0 0 0) ≡ 5)
+        × (calledFor (underSmac Mii) x (Opcode 0x37 0 0 0) ≡ 4)
+        × (calledFor (underSmac Mii) x (Opcode 0x38 0 0 0) ≡ 0)
+        × (calledFor (underSmac Mii) x (Opcode 0x7e 0 0 0) ≡ 4)
+    unfolding calledFor malformedOn programWhileHalted valid permitted opcodesAllowed windowOf within usable regionOf sizeOf absent allThere isWidth operationOf grouped headerFits headerEnd
+    later-called-for = (rw whole, rw whole, rw whole, rw whole)
 
-  halts : stepped locked x Halt ≡ ends (haltStep locked) x
-  unfolding malformedOn programWhileHalted performed
-  halts = performs locked x Halt (allowed false Halt refl refl)
+    smint-allowed : firstRefusal false x (smint e) ≡ Allowed
+    unfolding malformedOn programWhileHalted
+    smint-allowed = allowed false (smint e) refl refl
 
-  answers : answersOf (run locked x stepsToEntry) ≡ Done ∷ stepped (withHalted locked true) x entering .stepped .answer ∷ []
-  unfolding run
-  answers = rw halts
+    refuses : refusal (stepped (locked e) x UnnamedBoundary .stepped .answer) ≡ true
+    unfolding stepped firstRefusal malformedOn
+    refuses = rw whole
 
-  ends-at-entry : UpToEntry (answersOf (run locked x stepsToEntry))
-  ends-at-entry = rw answers (up-to-entry-asked .2 Done _ [] (λ e. omega arith) (up-to-entry-asked .1 _))
+    halts : stepped (locked e) x Halt ≡ ends (haltStep (locked e)) x
+    unfolding malformedOn programWhileHalted performed
+    halts = performs (locked e) x Halt (allowed false Halt refl refl)
 
-  enters-last : lastNumber (answersOf (run locked x stepsToEntry)) ≡ 11
-  enters-last = rw answers (enters-where-due (withHalted locked true) x entering (boundary-allowed true) (due-at-boundary true))
+    answers : answersOf (run (locked e) x stepsToEntry) ≡ Done ∷ stepped (withHalted (locked e) true) x entering .stepped .answer ∷ []
+    unfolding run
+    answers = rw halts
+
+    ends-at-entry : UpToEntry (answersOf (run (locked e) x stepsToEntry))
+    ends-at-entry = rw answers (up-to-entry-asked .2 Done _ [] (λ e. omega arith) (up-to-entry-asked .1 _))
+
+    enters-last : lastNumber (answersOf (run (locked e) x stepsToEntry)) ≡ 11
+    enters-last = rw answers (enters-where-due (withHalted (locked e) true) x entering (boundary-allowed true) (due-at-boundary e true))
 
 pub full : (b : ℕ) → length (replicate 65536 b) ≡ 65536
 full b = length-replicate 65536 b
 
 pub refusal-examples : RefusalExamples
 unfolding calledFor wrongSizes
-refusal-examples =
-    let c = called-for (replicate 65536 0) (full 0) in
-    (c .0, refl, c .1, c .2, c .3, c .4, refuses (replicate 65536 0) (full 0))
+refusal-examples e =
+    let c = called-for (replicate 65536 0) (full 0) e in
+    (c .0, refl, c .1, c .2, c .3, c .4, refuses (replicate 65536 0) (full 0) e)
+
+pub later-examples : LaterExamples
+unfolding headerPlace headerEnd regionOf sizeOf internal alwaysInternal
+later-examples =
+    let c = later-called-for (replicate 65536 0) (full 0) Mii in
+    (refl, c .0, c .1, c .2, c .3, refl, refl, refl, refl, refl)
+
+pub alike-example : AlikeExample
+unfolding enabled headerFits headerEnd usable regionOf sizeOf withSmhr
+alike-example = record { off = refl; end = refl; on = (refl, refl) }
 
 flat-fits : SegmentFits (resetSegments .ds)
 unfolding numberBy
@@ -110,9 +145,9 @@ flat-fits = record { selector = omega arith; descriptor = omega arith }
 none-fits : SegmentFits (resetSegments .tr)
 none-fits = record { selector = omega arith; descriptor = omega arith }
 
-sample-fits : (ccr1 ccr3 : ℕ) → ccr1 < 2 ^ 8 → ccr3 < 2 ^ 8 → MachineFits (sample ccr1 ccr3)
+sample-fits : (e : Edition) (ccr1 ccr3 : ℕ) → ccr1 < 2 ^ 8 → ccr3 < 2 ^ 8 → MachineFits (sample e ccr1 ccr3)
 unfolding numberBy
-sample-fits ccr1 ccr3 h k = record {
+sample-fits e ccr1 ccr3 h k = record {
   registers = record {
     eip = omega arith;
     eflags = omega arith;
@@ -122,7 +157,18 @@ sample-fits ccr1 ccr3 h k = record {
     descriptor = omega arith;
   };
   segments = record { ds = flat-fits; es = flat-fits; fs = flat-fits; gs = flat-fits; ss = flat-fits; ldtr = none-fits; tr = none-fits };
-  settings = record { ccr1 = h; ccr3 = k; high = omega arith; middle = omega arith; low = omega arith };
+  settings = record {
+    ccr1 = h;
+    ccr3 = k;
+    high = omega arith;
+    middle = omega arith;
+    low = omega arith;
+    ccr6 = omega arith;
+    smhr0 = omega arith;
+    smhr1 = omega arith;
+    smhr2 = omega arith;
+    smhr3 = omega arith;
+  };
   index = omega arith;
 }
 
@@ -146,12 +192,19 @@ entry-example m s f w may by =
       };
     }
 
+locked-fits : (e : Edition) → MachineFits (locked e)
+locked-fits e = sample-fits e 0x02 0x01 (omega arith) (omega arith)
+
+smint-fits : (e : Edition) → StepFits (smint e)
+smint-fits Cx486 = (omega arith, omega arith, omega arith, omega arith)
+smint-fits Mii = (omega arith, omega arith, omega arith, omega arith)
+
 pub entry-examples : EntryExamples
-entry-examples = (
-  entry-example locked entering (sample-fits 0x02 0x01 (omega arith) (omega arith)) (omega arith, omega arith, tt)
-      (boundary-allowed (replicate 65536 0) (full 0) false) (due-at-boundary false),
-  entry-example underSmac smint (sample-fits 0x06 0x01 (omega arith) (omega arith)) (omega arith, omega arith, omega arith, omega arith)
-      (smint-allowed (replicate 65536 0) (full 0)) due-by-smint,
+entry-examples e = (
+  entry-example (locked e) entering (locked-fits e) (omega arith, omega arith, tt)
+      (boundary-allowed (replicate 65536 0) (full 0) false) (due-at-boundary e false),
+  entry-example (underSmac e) (smint e) (sample-fits e 0x06 0x01 (omega arith) (omega arith)) (smint-fits e)
+      (smint-allowed (replicate 65536 0) (full 0) e) (due-by-smint e),
 )
 
 steps-none : NoReset stepsToEntry
@@ -160,12 +213,12 @@ steps-none =
     more Halt (entering ∷ []) (λ e. let k = ap kindOf e in omega arith)
     (more entering [] (λ e. let k = ap kindOf e in omega arith) (no-reset-asked .0))
 
-pub isolation-example : IsolationExample
-isolation-example = record {
-  start = record { outside = refl; locked = refl; closed = refl };
+pub isolation-examples : IsolationExamples
+isolation-examples e = record {
+  start = record { outside = refl; locked = refl; closed = refl; bytes = locked-fits e .settings };
   none = steps-none;
   equal = full 0 ∙ sym (full 1);
-  first = ends-at-entry (replicate 65536 0) (full 0);
-  second = ends-at-entry (replicate 65536 1) (full 1);
-  entered = enters-last (replicate 65536 0) (full 0);
+  first = ends-at-entry (replicate 65536 0) (full 0) e;
+  second = ends-at-entry (replicate 65536 1) (full 1) e;
+  entered = enters-last (replicate 65536 0) (full 0) e;
 }

@@ -10,7 +10,7 @@ use lib.Seq.{sets}
 use borrow.Author.Tests.{eqb-false}
 use Rattle.region.specs.Region.{within}
 use Rattle.fields.specs.Fields.{fieldAt, bytesOf}
-use Rattle.memory.specs.Memory.{Memories, Reached, memories, there, load, store, reads, writes}
+use Rattle.memory.specs.Memory.{Memories, Reached, memories, allThere, there, load, store, reads, writes}
 use Rattle.memory.proofs.Laws.{load-of, store-all-of}
 use Rattle.steps.specs.declared.Answer.{Answer}
 use Rattle.steps.specs.declared.Answer.the-variants.{Done, WrongSize, Malformed, WhileHalted, Invalid, Absent, Value}
@@ -21,18 +21,20 @@ use Rattle.steps.specs.Answers.{numberOf}
 use Rattle.events.specs.Events.{Event, event}
 use Rattle.refusals.specs.Refusals.{wrongSizes, firstRefusal}
 use Rattle.refusals.proofs.Laws.{by-verdict, sizes}
-use Rattle.config.specs.declared.Accessed.{Accessed}
 use Rattle.config.specs.Settings.{smac, smiLock, enabled, headerPlace, SameLocked, opcodesAllowed}
-use Rattle.config.proofs.Lock.{locked-refl, locked-trans, same-smac, same-lock, same-place, window-shut, enabled-usable, place-fits}
-use Rattle.header.specs.Header.{headed, headerBytes}
+use Rattle.config.specs.Locked.{Fixed, SettingsFit}
+use Rattle.config.proofs.Lock.{locked-refl, locked-trans, same-smac, same-lock, locked-as-listed}
+use Rattle.config.proofs.Place.{same-place, window-shut, enabled-has, place-room}
+use Rattle.header.specs.Header.{headerLength, headed, headerBytes}
 use Rattle.header.specs.declared.Saved.{Saved}
 use Rattle.opcodes.specs.declared.Operation.{Operation}
 use Rattle.opcodes.specs.Decode.{operationOf}
 use Rattle.machine.specs.declared.Machine.{Machine}
 use Rattle.machine.specs.declared.Stepped.{Stepped}
 use Rattle.machine.specs.Outcomes.{Outcome, gives, ends}
-use Rattle.machine.specs.Service.{settingsOf, savedAtBoundary, enteredMachine, entry, taken, passed, boundaryStep}
-use Rattle.machine.specs.Steps.{window, permitted, valid, portStep, opcodeStep, performed, decided, stepped}
+use Rattle.machine.specs.Machines.{settingsOf, editionOf}
+use Rattle.machine.specs.Service.{savedAtBoundary, enteredMachine, entry, taken, passed, boundaryStep}
+use Rattle.machine.specs.Steps.{window, permitted, valid, operationOn, operated, withOperand, portWriteStep, opcodeStep, performed, decided, stepped}
 use Rattle.runs.specs.Runs.{Run, run, answersOf}
 use Rattle.runs.proofs.Turns.{preceded}
 use Rattle.isolation.specs.Service.{OnlyHeader}
@@ -42,17 +44,19 @@ use Rattle.isolation.proofs.Cases.{both}
 use Rattle.isolation.proofs.Doing.{taken-where}
 use Rattle.isolation.proofs.Entering.{only-header}
 
--- a later machine of a run that began on start: outside the mode, the locked settings as they were
+-- a later machine of a run that began on start: outside the mode, the locked settings as they were, and all stored bytes still bytes
 record Held (start m : Machine) : Type 0 where
   pub outside : m .inside ≡ false
   pub settings : SameLocked (settingsOf m) (settingsOf start)
+  pub bytes : SettingsFit (settingsOf m)
 
 -- two outcomes of one step, of runs that began on start with management memories g and h
 record One (start : Machine) (g h : List ℕ) (o p : Outcome) : Type 0 where
   pub same : o .stepped ≡ p .stepped
   pub main : o .memory .main ≡ p .memory .main
-  pub settings : SameLocked (settingsOf (o .stepped .machine)) (settingsOf start)
-  pub before : (numberOf (o .stepped .answer) ≡ 11 → ⊥) → (o .memory .management ≡ g) × (p .memory .management ≡ h) × (o .stepped .machine .inside ≡ false)
+  pub edition : editionOf (o .stepped .machine) ≡ editionOf start
+  pub settings : Fixed (editionOf start) (settingsOf (o .stepped .machine)) (settingsOf start)
+  pub before : (numberOf (o .stepped .answer) ≡ 11 → ⊥) → (o .memory .management ≡ g) × (p .memory .management ≡ h) × Held start (o .stepped .machine)
   pub entered : numberOf (o .stepped .answer) ≡ 11 → SameHeader start g h (o .memory .management) (p .memory .management)
 
 alike : (halted : Bool) (main g h : List ℕ) (s : Step) → length g ≡ length h
@@ -61,6 +65,11 @@ unfolding firstRefusal wrongSizes
 alike halted main g h s e = rw e
 
 -- ---- one step
+
+-- the locked settings of such a machine in the papers' words
+fixed : (start m : Machine) → Start start → Held start m → Fixed (editionOf start) (settingsOf m) (settingsOf start)
+fixed start m from held =
+    locked-as-listed (settingsOf m) (settingsOf start) (held .bytes) (from .bytes) (held .settings .edition) .0 (held .settings)
 
 module _ (start : Machine) (from : Start start) (g h : List ℕ) (main : List ℕ) where
   abbrev P : Outcome → Outcome → Type 0
@@ -72,8 +81,9 @@ module _ (start : Machine) (from : Start start) (g h : List ℕ) (main : List �
   quiet r a e held = record {
     same = refl;
     main = refl;
-    settings = held .settings;
-    before = λ n. (refl, refl, held .outside);
+    edition = held .settings .edition;
+    settings = fixed start (r .machine) from held;
+    before = λ n. (refl, refl, held);
     entered = λ n. absurd (eqb-false (numberOf (r .answer)) 11 e n);
   }
 
@@ -92,8 +102,8 @@ module _ (start : Machine) (from : Start start) (g h : List ℕ) (main : List �
     stays a e = quiet (gives m a) main e held
 
     -- one that differs in neither mode nor settings
-    kept : (n : Machine) → n .inside ≡ m .inside → SameLocked (settingsOf n) (settingsOf m) → Held start n
-    kept n e k = record { outside = e ∙ held .outside; settings = locked-trans k (held .settings) }
+    kept : (n : Machine) → n .inside ≡ m .inside → settingsOf n ≡ settingsOf m → Held start n
+    kept n e k = record { outside = e ∙ held .outside; settings = rw k (held .settings); bytes = rw k (held .bytes) }
 
     read-one : (width a : ℕ) → P (performed m (memories main g) (Read width a)) (performed m (memories main h) (Read width a))
     unfolding performed reads
@@ -115,9 +125,12 @@ module _ (start : Machine) (from : Start start) (g h : List ℕ) (main : List �
         (λ k. rw (left g, left h) (quiet (gives m Done) (sets main a (bytesOf width v)) refl held))
         (λ k. stays Absent refl)
 
-    port-one : (p : Accessed) → eqb (numberOf (p .answer)) 11 ≡ false → SameLocked (p .config .settings) (settingsOf m)
-        → P (ends (portStep m p) (memories main g)) (ends (portStep m p) (memories main h))
-    port-one p e k = quiet (portStep m p) main e (kept (portStep m p .machine) refl k)
+    port-write-one : (port v : ℕ) → P (performed m (memories main g) (PortWrite port v)) (performed m (memories main h) (PortWrite port v))
+    unfolding performed
+    port-write-one port v =
+        let k = write-keeps (m .config) port v (m .inside) in
+        quiet (portWriteStep m port v) main (k .0 .other)
+        (record { outside = held .outside; settings = locked-trans (k .1 (held .outside) lock) (held .settings); bytes = k .2 (held .bytes) })
 
     -- outside the mode with SMAC 0 no operation is valid
     not-valid : (o : Operation) → valid m o ≡ false
@@ -125,8 +138,8 @@ module _ (start : Machine) (from : Start start) (g h : List ℕ) (main : List �
     not-valid o = simp (held .outside, closed, and-false)
 
     opcode-one : (op modrm a next : ℕ) → P (opcodeStep m (memories main g) op modrm a next) (opcodeStep m (memories main h) op modrm a next)
-    unfolding opcodeStep
-    opcode-one op modrm a next = rw (not-valid (operationOf op modrm)) (stays Invalid refl)
+    unfolding opcodeStep operationOn withOperand operated allThere
+    opcode-one op modrm a next = rw (not-valid (operationOf (editionOf m) op modrm)) (stays Invalid refl)
 
     module _ (long : length g ≡ 65536) (equal : length g ≡ length h) where
       entry-one : (s : Saved) (latched : Bool) → enabled (settingsOf m) ≡ true
@@ -134,13 +147,15 @@ module _ (start : Machine) (from : Start start) (g h : List ℕ) (main : List �
       unfolding entry enteredMachine
       entry-one s latched e =
           let at = headerPlace (settingsOf m) in
-          let fits = place-fits (settingsOf m) (enabled-usable (settingsOf m) e) in
-          let moved : (l : List ℕ) → at + 48 ≤ length l → OnlyHeader l (headed l at s) (headerPlace (settingsOf start)) (headerBytes s)
-          = λ l f. rw (← same-place (held .settings)) (only-header l at s f) in
+          let on = enabled-has (settingsOf m) e in
+          let fits = place-room (settingsOf m) (on .usable) (on .fits) in
+          let moved : (l : List ℕ) → at + headerLength ≤ length l → OnlyHeader l (headed l at s) (headerPlace (settingsOf start)) (headerBytes s)
+          = λ l f. rw (← same-place (settingsOf m) (settingsOf start) (held .bytes) (from .bytes) (held .settings)) (only-header l at s f) in
           record {
             same = refl;
             main = refl;
-            settings = held .settings;
+            edition = held .settings .edition;
+            settings = fixed start m from held;
             before = λ n. absurd (n refl);
             entered = λ n. record { saved = s; first = moved g (omega arith); second = moved h (omega arith) };
           }
@@ -157,16 +172,16 @@ module _ (start : Machine) (from : Start start) (g h : List ℕ) (main : List �
       performed-one : (s : Step) → (s ≡ Reset → ⊥) → P (performed m (memories main g) s) (performed m (memories main h) s)
       unfolding performed
       performed-one Reset n = absurd (n refl)
-      performed-one (Registers eip eflags cr0 dr7 selector descriptor level writable) n = quiet _ main refl (kept _ refl locked-refl)
+      performed-one (Registers eip eflags cr0 dr7 selector descriptor level writable) n = quiet _ main refl (kept _ refl refl)
       performed-one (Read width a) n = read-one width a
       performed-one (Write width a v) n = write-one width a v
-      performed-one (PortRead port) n = let k = read-keeps (m .config) port in port-one _ (k .0 .other) (rw (k .1) locked-refl)
-      performed-one (PortWrite port v) n = let k = write-keeps (m .config) port v (m .inside) in port-one _ (k .0 .other) (k .1 (held .outside) lock)
+      performed-one (PortRead port) n = let k = read-keeps (m .config) port in quiet _ main (k .0 .other) (kept _ refl (k .1))
+      performed-one (PortWrite port v) n = port-write-one port v
       performed-one (Opcode op modrm a next) n = opcode-one op modrm a next
       performed-one (Boundary smi current i) n = boundary-one (eqb smi 1) current i
       performed-one UnnamedBoundary n = stays Malformed refl
-      performed-one Halt n = quiet _ main refl (kept _ refl locked-refl)
-      performed-one Wake n = quiet _ main refl (kept _ refl locked-refl)
+      performed-one Halt n = quiet _ main refl (kept _ refl refl)
+      performed-one Wake n = quiet _ main refl (kept _ refl refl)
 
     step-one : (s : Step) → length g ≡ length h → (s ≡ Reset → ⊥) → P (stepped m (memories main g) s) (stepped m (memories main h) s)
     unfolding stepped
@@ -195,6 +210,7 @@ module _ (start : Machine) (from : Start start) (g h : List ℕ) (equal : length
         events = cc (e, c .events);
         machine = c .machine;
         main = c .main;
+        edition = c .edition;
         settings = c .settings;
         before = λ n. c .before (λ k. n (l ∙ k));
         entered = λ n. c .entered (sym l ∙ n);
@@ -226,7 +242,8 @@ module _ (start : Machine) (from : Start start) (g h : List ℕ) (equal : length
     events = refl;
     machine = a .machine;
     main = a .main;
-    settings = held .settings;
+    edition = held .settings .edition;
+    settings = fixed start m from held;
     before = λ k. (a .first, a .second);
     entered = λ k. absurd (omega arith);
   }
@@ -236,6 +253,7 @@ module _ (start : Machine) (from : Start start) (g h : List ℕ) (equal : length
         events = ap (λ (e : Event). e ∷ []) (noted-same s (a .machine) (c .same));
         machine = ap (λ (r : Stepped). r .machine) (c .same);
         main = c .main;
+        edition = c .edition;
         settings = c .settings;
         before = λ k. let b = c .before k in (b .0, b .1);
         entered = c .entered;
@@ -251,7 +269,7 @@ module _ (start : Machine) (from : Start start) (g h : List ℕ) (equal : length
       (run (o .stepped .machine) (o .memory) (t ∷ ss)) (run (p .stepped .machine) (p .memory) (t ∷ ss))
       (noted-same s (a .machine) (c .same)) (omega arith)
       (all (t ∷ ss) (o .stepped .machine) (p .stepped .machine) (o .memory) (p .memory) a′
-      (record { outside = b .2; settings = c .settings }) (λ i l. none (suc i) (omega arith)) (λ i l. up (suc i) (omega arith)))
+      (b .2) (λ i l. none (suc i) (omega arith)) (λ i l. up (suc i) (omega arith)))
 
   cut : (b : Bool) (ts us vs : List Answer) → (b ≡ false → us ≡ vs) → cond b ts us ≡ cond b ts vs
   cut true ts us vs f = refl
@@ -270,16 +288,17 @@ module _ (start : Machine) (from : Start start) (g h : List ℕ) (equal : length
       (λ e. let b = c .before (eqb-false (numberOf (o .stepped .answer)) 11 e) in
       ap (λ (l : List Answer). o .stepped .answer ∷ l)
       (through ss (o .stepped .machine) (o .stepped .machine) (o .memory) (p .memory)
-      (record { machine = refl; main = c .main; first = b .0; second = b .1 })
-      (record { outside = b .2; settings = c .settings }) (λ i l. none (suc i) (omega arith)))))
+      (record { machine = refl; main = c .main; first = b .0; second = b .1 }) (b .2) (λ i l. none (suc i) (omega arith)))))
+
+at-start : (m : Machine) → Start m → Held m m
+at-start m from = record { outside = from .outside; settings = locked-refl; bytes = from .bytes }
 
 pub isolated : Isolated
 isolated m main g h ss k from equal none first second =
     all m from g h equal (take k ss) m m (memories main g) (memories main h)
-    (record { machine = refl; main = refl; first = refl; second = refl }) (record { outside = from .outside; settings = locked-refl })
-    none first
+    (record { machine = refl; main = refl; first = refl; second = refl }) (at-start m from) none first
 
 pub same-answers : SameAnswers
 same-answers m main g h ss from equal none =
     through m from g h equal ss m m (memories main g) (memories main h)
-    (record { machine = refl; main = refl; first = refl; second = refl }) (record { outside = from .outside; settings = locked-refl }) none
+    (record { machine = refl; main = refl; first = refl; second = refl }) (at-start m from) none

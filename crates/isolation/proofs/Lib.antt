@@ -7,3 +7,5 @@ pub mod Service
 pub mod Isolation
 pub mod Tightness
 pub mod Examples
+pub mod Edition
+pub mod Common

@@ -5,7 +5,7 @@ use Prim.Native.Nat.{ℕ, _+_, _*_, _^_, _<_}
 use native.Mathlib.Omega.{arith}
 use lib.Dec.{eqb}
 use lib.Seq.{length-sets}
-use Rattle.memory.specs.Memory.{Memories}
+use Rattle.memory.specs.Memory.{Memories, allThere}
 use Rattle.steps.specs.declared.Transfer.{Transfer}
 use Rattle.steps.specs.declared.Interruption.{Interruption}
 use Rattle.steps.specs.declared.Interruption.the-variants.{None, Input, Output, StringInput, StringOutput, RepInput, RepOutput}
@@ -16,16 +16,20 @@ use Rattle.steps.specs.Widths.{TransferFits, InterruptionFits, StepFits}
 use Rattle.refusals.specs.declared.Verdict.the-variants.{Allowed}
 use Rattle.refusals.specs.Refusals.{wrongSizes, malformedOn, programWhileHalted, firstRefusal}
 use Rattle.refusals.proofs.Laws.{taken-allowed, by-verdict}
-use Rattle.config.specs.Settings.{headerPlace, opcodesAllowed}
+use Rattle.config.specs.declared.Edition.{Edition}
+use Rattle.config.specs.declared.Edition.the-variants.{Cx486, Mii}
+use Rattle.config.specs.Settings.{headerFits, headerPlace, opcodesAllowed}
 use Rattle.header.specs.Header.{sizeBits, portSize, cut, trapOf, headerBytes, headed}
 use Rattle.header.specs.Entry.{entryRegisters}
 use Rattle.header.specs.ReadBack.{SavedFits}
 use Rattle.header.proofs.ReadBack.{registers-back}
+use Rattle.opcodes.specs.declared.Operation.the-variants.{Rsm}
 use Rattle.opcodes.specs.Decode.{operationOf}
 use Rattle.machine.specs.declared.Machine.{Machine}
 use Rattle.machine.specs.Outcomes.{Outcome, ends}
-use Rattle.machine.specs.Service.{settingsOf, enteredMachine, entry, taken, boundaryStep, resume}
-use Rattle.machine.specs.Steps.{permitted, valid, operated, opcodeStep, performed, decided, stepped}
+use Rattle.machine.specs.Machines.{settingsOf, editionOf}
+use Rattle.machine.specs.Service.{enteredMachine, entry, taken, boundaryStep, resume}
+use Rattle.machine.specs.Steps.{permitted, valid, operationOn, operated, withOperand, opcodeStep, performed, decided, stepped}
 use Rattle.isolation.specs.Widths.{MachineFits}
 use Rattle.isolation.specs.Service.{answerTo, Entering, recorded, latchAfter, EntersWhereDue, EntersAsStated, ResumesWhereDue, ResumesAsStated, Resume, ResumesAsEntered}
 use Rattle.isolation.specs.Service.Entering.{at-boundary, by-smint}
@@ -49,12 +53,12 @@ resumed-allowed m x s =
 -- ---- which steps enter, and which resume
 
 pub enters-where-due : EntersWhereDue
-unfolding performed boundaryStep taken opcodeStep operated entry
+unfolding performed boundaryStep taken opcodeStep operationOn withOperand operated allThere entry
 enters-where-due m x s may (at-boundary {smi} {current} {i} outside on asked) = rw (performs m x (Boundary smi current i) may, outside, on, asked)
 enters-where-due m x s may (by-smint {op} {modrm} {a} {next} d v) = rw (performs m x (Opcode op modrm a next) may, d, v)
 
 pub resumes-where-due : ResumesWhereDue
-unfolding performed opcodeStep operated resume
+unfolding performed opcodeStep operationOn withOperand operated allThere resume
 resumes-where-due m x s may (by-rsm {op} {modrm} {a} {next} d v) = rw (performs m x (Opcode op modrm a next) may, d, v)
 
 -- ---- what entry writes and loads
@@ -151,13 +155,19 @@ same-next : (m : Machine) {s : Step} (by by′ : Entering m s) → recorded m by
 same-next m (at-boundary o n k) (at-boundary o′ n′ k′) = refl
 same-next m (by-smint d v) (by-smint d′ v′) = refl
 
+is-rsm : (e : Edition) (modrm : ℕ) → operationOf e 0xaa modrm ≡ Rsm
+unfolding operationOf
+is-rsm Cx486 modrm = refl
+is-rsm Mii modrm = refl
+
 rsm-resumes : (m : Machine) (x : Memories) (modrm a next : ℕ)
-    → wrongSizes x ≡ false → m .halted ≡ false → m .inside ≡ true → permitted m ≡ true
+    → wrongSizes x ≡ false → m .halted ≡ false → m .inside ≡ true → permitted m ≡ true → headerFits (settingsOf m) ≡ true
     → stepped m x (Opcode 0xaa modrm a next) ≡ ends (resume m (x .management)) x
-unfolding malformedOn programWhileHalted performed opcodeStep operationOf valid operated
-rsm-resumes m x modrm a next sizes awake inside may =
+unfolding malformedOn programWhileHalted valid
+rsm-resumes m x modrm a next sizes awake inside may fits =
     let s = Opcode 0xaa modrm a next in
-    performs m x s (taken-allowed (m .halted) x s (record { sizes = sizes; formed = rw awake; awake = rw awake })) ∙ rw (may, inside)
+    let taken = taken-allowed (m .halted) x s (record { sizes = sizes; formed = rw awake; awake = rw awake }) in
+    resumes m x s (resumes-where-due m x s taken (by-rsm (is-rsm (editionOf m) modrm) (rw (may, inside, fits)))) .outcome
 
 module _ (m : Machine) (x : Memories) (s : Step) (by by′ : Entering m s) (able : Able m x) (modrm a next : ℕ)
     (fits : SavedFits (recorded m by)) where
@@ -175,7 +185,7 @@ module _ (m : Machine) (x : Memories) (s : Step) (by by′ : Entering m s) (able
   resume-stated : Resume m s by′ inside (stepped (inside .stepped .machine) (inside .memory) (Opcode 0xaa modrm a next))
   unfolding entry enteredMachine resume
   resume-stated =
-      rw (rsm-resumes (inside .stepped .machine) (inside .memory) modrm a next sizes-kept refl refl may-resume)
+      rw (rsm-resumes (inside .stepped .machine) (inside .memory) modrm a next sizes-kept refl refl may-resume (able .fits))
       (record {
         answer = refl;
         registers =

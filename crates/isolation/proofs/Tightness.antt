@@ -1,6 +1,6 @@
 -- How tight the statements are (01). Assumes nothing.
 use mathlib.Core.Path.{_≡_, refl, sym, ap, subst, _∙_}
-use mathlib.Core.Bool.{Bool, true, false, cond}
+use mathlib.Core.Bool.{Bool, true, false}
 use mathlib.Core.List.{List, [], _∷_, _++_}
 use Prim.Native.Nat.{ℕ, zero, suc, _+_, _-_, _/_, _%_}
 use native.Mathlib.Omega.{arith}
@@ -16,13 +16,12 @@ use Rattle.steps.specs.declared.Step.{Step}
 use Rattle.steps.specs.declared.Step.the-variants.{Reset}
 use Rattle.steps.specs.Answers.{numberOf}
 use Rattle.config.specs.Settings.{headerPlace}
-use Rattle.config.proofs.Lock.{locked-as-listed}
-use Rattle.header.specs.Header.{headed, headerBytes}
+use Rattle.header.specs.Header.{headerLength, headed, headerBytes}
 use Rattle.header.specs.Entry.{entryRegisters}
 use Rattle.machine.specs.declared.Machine.{Machine}
-use Rattle.machine.specs.Machines.{machine}
+use Rattle.machine.specs.Machines.{machine, settingsOf}
 use Rattle.machine.specs.Outcomes.{gives, ends}
-use Rattle.machine.specs.Service.{settingsOf, enteredMachine, entry, resume}
+use Rattle.machine.specs.Service.{enteredMachine, entry, resume}
 use Rattle.runs.specs.Runs.{Run, run, answersOf}
 use Rattle.isolation.specs.Isolation.{NoReset, UpToEntry, Agree, throughEntry}
 use Rattle.isolation.specs.Tightness.{StartAsked, NoResetAsked, UpToEntryAsked, LastIsLast, NoEntry, ThroughEntryAsked, WholeList, HeaderDetermines, EntryDetermines, ResumptionDetermines, ResumeDetermines, second, AgreementDetermines}
@@ -31,8 +30,8 @@ use Rattle.isolation.proofs.Isolation.{isolated}
 -- ---- the hypotheses ask for no more
 
 pub start-asked : StartAsked
-start-asked m o l c =
-    record { outside = o; locked = eq-eqb _ 1 l; closed = ne-eqb (m .config .settings .ccr1 / 4 % 2) 1 (λ e. omega arith) }
+start-asked m o l c f =
+    record { outside = o; locked = eq-eqb _ 1 l; closed = ne-eqb (m .config .settings .ccr1 / 4 % 2) 1 (λ e. omega arith); bytes = f .settings }
 
 pub no-reset-asked : NoResetAsked
 no-reset-asked = (λ i l. absurd (omega arith), more)
@@ -93,19 +92,19 @@ numbered Resumed = (λ e. absurd (omega arith), λ e. refl)
 
 pub header-determines : HeaderDetermines
 header-determines g g′ at bytes o =
-    ext-getD 0 g′ (sets g at bytes) (o .same ∙ sym (length-sets g at bytes)) (λ i l. go i (ltb i at) (ltb i (at + 48)) refl refl)
+    ext-getD 0 g′ (sets g at bytes) (o .same ∙ sym (length-sets g at bytes)) (λ i l. go i (ltb i at) (ltb i (at + headerLength)) refl refl)
   where
-    go : (i : ℕ) (b c : Bool) → ltb i at ≡ b → ltb i (at + 48) ≡ c → getD g′ i 0 ≡ getD (sets g at bytes) i 0
+    go : (i : ℕ) (b c : Bool) → ltb i at ≡ b → ltb i (at + headerLength) ≡ c → getD g′ i 0 ≡ getD (sets g at bytes) i 0
     go i true c e f = o .below i (ltb-true i at e) ∙ sym (stored-below g bytes at i (ltb-true i at e))
     go i false true e f =
         let l = ltb-false i at e in
-        let h = ltb-true i (at + 48) f in
+        let h = ltb-true i (at + headerLength) f in
         let k : i ≡ at + (i - at) = omega arith in
         let n = o .long in
         let fits = o .fits in
         rw k (o .header (i - at) (omega arith) ∙ sym (stored-byte g bytes at (i - at) (omega arith) (omega arith)))
     go i false false e f =
-        let l = ltb-false i (at + 48) f in
+        let l = ltb-false i (at + headerLength) f in
         let n = o .long in
         o .above i l ∙ sym (stored-above g bytes at i (omega arith))
 
@@ -146,5 +145,6 @@ agreement-determines m g h a b c = record {
         header-determines g (a .memory .management) at bytes (k .first),
         second-is c (sets h at bytes) (header-determines h (b .memory .management) at bytes (k .second)),
       );
-  settings = λ hs ht. let f = locked-as-listed _ _ hs ht .0 (c .settings) in (f, rw (← c .machine) f);
+  editions = (c .edition, rw (← c .machine) (c .edition));
+  settings = (c .settings, rw (← c .machine) (c .settings));
 }

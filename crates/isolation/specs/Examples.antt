@@ -1,5 +1,5 @@
 -- An example of what each theorem of this crate asks for, so that none of them speaks of nothing.
-use Prim.Native.Nat.{ℕ}
+use Prim.Native.Nat.{ℕ, _+_}
 use mathlib.Core.Path.{_≡_}
 use mathlib.Core.Bool.{true, false}
 use mathlib.Core.List.{List, [], _∷_}
@@ -12,8 +12,16 @@ use Rattle.steps.specs.Answers.{refusal}
 use Rattle.steps.specs.Widths.{StepFits}
 use Rattle.refusals.specs.declared.Verdict.the-variants.{Allowed}
 use Rattle.refusals.specs.Refusals.{firstRefusal}
+use Rattle.config.specs.declared.Edition.{Edition}
+use Rattle.config.specs.declared.Edition.the-variants.{Cx486, Mii}
+use Rattle.region.specs.Region.{sizeOf}
+use Rattle.config.specs.Settings.{smiLock, mapen, regionIn, smhr, headerPlace, enabled, withSmhr, withEdition}
+use Rattle.config.specs.Ports.{internal}
+use Rattle.config.specs.declared.Settings.{Settings}
+use Rattle.opcodes.specs.Decode.{smintOpcode}
 use Rattle.machine.specs.declared.Machine.{Machine}
-use Rattle.machine.specs.Machines.{machine, resetRegisters, resetSegments}
+use Rattle.segments.specs.Segments.{resetSegments}
+use Rattle.machine.specs.Machines.{machine, settingsOf, resetRegisters}
 use Rattle.machine.specs.Steps.{stepped}
 use Rattle.isolation.specs.Widths.{MachineFits}
 use Rattle.runs.specs.Runs.{run, answersOf}
@@ -21,18 +29,33 @@ use Rattle.isolation.specs.Refusals.{calledFor}
 use Rattle.isolation.specs.Service.{answerTo, Entering, Resuming}
 use Rattle.isolation.specs.Isolation.{Start, NoReset, UpToEntry, lastNumber}
 
--- a machine with the registers of a reset, SMAR 000683h, and CCR1 and CCR3 as given
-abbrev pub sample : ℕ → ℕ → Machine
-sample ccr1 ccr3 =
-    machine resetRegisters resetSegments false false false
-    (record { settings = record { ccr1 = ccr1; ccr3 = ccr3; high = 0x00; middle = 0x06; low = 0x83 }; index = 0; armed = false })
+-- Settings of an edition: SMAR 000683h, which is 16 KiB at 68000h, and SMHR 6A001h in its midst; CCR1 and CCR3 as given.
+abbrev pub sampleSettings : Edition → ℕ → ℕ → Settings
+sampleSettings e ccr1 ccr3 = record {
+  edition = e;
+  ccr1 = ccr1;
+  ccr3 = ccr3;
+  high = 0x00;
+  middle = 0x06;
+  low = 0x83;
+  ccr6 = 0x41;
+  smhr0 = 0x01;
+  smhr1 = 0xa0;
+  smhr2 = 0x06;
+  smhr3 = 0x00;
+}
+
+-- a machine with them and with the registers of a reset
+abbrev pub sample : Edition → ℕ → ℕ → Machine
+sample e ccr1 ccr3 =
+    machine resetRegisters resetSegments false false false (record { settings = sampleSettings e ccr1 ccr3; index = 0; armed = false })
 
 -- USE_SMI and the lock; with SMAC besides
-abbrev pub locked : Machine
-locked = sample 0x02 0x01
+abbrev pub locked : Edition → Machine
+locked e = sample e 0x02 0x01
 
-abbrev pub underSmac : Machine
-underSmac = sample 0x06 0x01
+abbrev pub underSmac : Edition → Machine
+underSmac e = sample e 0x06 0x01
 
 -- no main memory, and management memory of one byte throughout
 abbrev pub filled : ℕ → Memories
@@ -42,15 +65,19 @@ filled b = memories [] (replicate 65536 b)
 abbrev pub stepsToEntry : List Step
 stepsToEntry = Halt ∷ Boundary 1 0x1000 None ∷ []
 
-pub record IsolationExample : Type 0 where
-  pub start : Start locked
+pub record IsolationExample (e : Edition) : Type 0 where
+  pub start : Start (locked e)
   pub none : NoReset stepsToEntry
   pub equal : length (filled 0 .management) ≡ length (filled 1 .management)
-  pub first : UpToEntry (answersOf (run locked (filled 0) stepsToEntry))
-  pub second : UpToEntry (answersOf (run locked (filled 1) stepsToEntry))
-  pub entered : lastNumber (answersOf (run locked (filled 0) stepsToEntry)) ≡ 11
+  pub first : UpToEntry (answersOf (run (locked e) (filled 0) stepsToEntry))
+  pub second : UpToEntry (answersOf (run (locked e) (filled 1) stepsToEntry))
+  pub entered : lastNumber (answersOf (run (locked e) (filled 0) stepsToEntry)) ≡ 11
 
--- demand 2: an entry at a boundary, and one by SMINT, of numbers of their widths; and RSM right after each
+-- in either edition
+abbrev pub IsolationExamples : Type 0
+IsolationExamples = (e : Edition) → IsolationExample e
+
+-- demand 2: an entry at a boundary, and one by SMINT, of numbers of their widths, in either edition; and RSM right after each
 abbrev pub rsm : Step
 rsm = Opcode 0xaa 0 0 0
 
@@ -68,15 +95,42 @@ pub record EntryExample (m : Machine) (s : Step) : Type 0 where
   pub back : ResumptionExample (stepped m (filled 0) s .stepped .machine) (stepped m (filled 0) s .memory) rsm
 
 abbrev pub EntryExamples : Type 0
-EntryExamples = EntryExample locked (Boundary 1 0x1000 None) × EntryExample underSmac (Opcode 0x7e 0 0 0x1002)
+EntryExamples =
+    (e : Edition) → EntryExample (locked e) (Boundary 1 0x1000 None) × EntryExample (underSmac e) (Opcode (smintOpcode e) 0 0 0x1002)
 
--- demand 1: a step that no refusal is called for, one for each of the five, and one that is refused
+-- demand 1: in either edition a step that no refusal is called for, one for each of the five, and one that is refused
 abbrev pub RefusalExamples : Type 0
 RefusalExamples =
-    (calledFor locked (filled 0) Halt ≡ 0)
-    × (calledFor locked (memories [] []) Reset ≡ 1)
-    × (calledFor locked (filled 0) UnnamedBoundary ≡ 2)
-    × (calledFor (machine resetRegisters resetSegments true false false (locked .config)) (filled 0) (PortRead 0x22) ≡ 3)
-    × (calledFor locked (filled 0) (Opcode 0xaa 0 0 0) ≡ 4)
-    × (calledFor locked (filled 0) (Read 4 0) ≡ 5)
-    × (refusal (stepped locked (filled 0) UnnamedBoundary .stepped .answer) ≡ true)
+    (e : Edition)
+    → (calledFor (locked e) (filled 0) Halt ≡ 0)
+    × (calledFor (locked e) (memories [] []) Reset ≡ 1)
+    × (calledFor (locked e) (filled 0) UnnamedBoundary ≡ 2)
+    × (calledFor (machine resetRegisters resetSegments true false false (locked e .config)) (filled 0) (PortRead 0x22) ≡ 3)
+    × (calledFor (locked e) (filled 0) (Opcode 0xaa 0 0 0) ≡ 4)
+    × (calledFor (locked e) (filled 0) (Read 4 0) ≡ 5)
+    × (refusal (stepped (locked e) (filled 0) UnnamedBoundary .stepped .answer) ≡ true)
+
+-- 02, request 1: outside the mode under the lock and SMAC, without main memory, RDSHR is refused for its operand, WRSHR is invalid before that,
+-- and SMINT is 38h and not 7Eh; the header begins 48 below SMHR, where the 486 edition has it 48 below the region's end; B0h is internal with
+-- MAPEN 0001b, with no other value, and never in the 486 edition
+abbrev pub LaterExamples : Type 0
+LaterExamples =
+    (smiLock (settingsOf (underSmac Mii)) ≡ true)
+    × (calledFor (underSmac Mii) (filled 0) (Opcode 0x36 0 0 0) ≡ 5)
+    × (calledFor (underSmac Mii) (filled 0) (Opcode 0x37 0 0 0) ≡ 4)
+    × (calledFor (underSmac Mii) (filled 0) (Opcode 0x38 0 0 0) ≡ 0)
+    × (calledFor (underSmac Mii) (filled 0) (Opcode 0x7e 0 0 0) ≡ 4)
+    × (headerPlace (settingsOf (locked Mii)) ≡ 0x1fd1)
+    × (headerPlace (settingsOf (locked Cx486)) ≡ 0x3fd0)
+    × (internal (sampleSettings Mii 0x02 0x11) 0xb0 ≡ true)
+    × (internal (sampleSettings Mii 0x02 0x31) 0xb0 ≡ false)
+    × (internal (sampleSettings Cx486 0x02 0x11) 0xb0 ≡ false)
+
+-- settings with SMHR at the region's end and MAPEN off, where SMIs are enabled in either edition
+abbrev pub alike : Settings
+alike = withSmhr (sampleSettings Mii 0x02 0x01) 0x6c000
+
+pub record AlikeExample : Type 0 where
+  pub off : mapen alike ≡ false
+  pub end : smhr alike ≡ regionIn alike .base + sizeOf (regionIn alike .code)
+  pub on : (enabled alike ≡ true) × (enabled (withEdition alike Cx486) ≡ true)

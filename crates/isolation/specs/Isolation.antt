@@ -1,7 +1,8 @@
--- Demand 3. Take a machine that is outside management mode with SMI_LOCK set and SMAC clear, a main memory, and two management memories of
--- one size. Give both the same list of steps, none of them a reset. Up to and including the first step that either answers with "entered",
--- answers, machines and main memories are the same in both, the locked settings are as at the start, and each management memory is as it was
--- at its own start, but for the 48 bytes that entry writes, which are the same in both.
+-- Demand 3. Take a machine of either edition that is outside management mode with SMI_LOCK set and SMAC clear, a main memory, and two
+-- management memories of one size. Give both the same list of steps, none of them a reset. Up to and including the first step that either
+-- answers with "entered", answers, machines and main memories are the same in both, the edition and its locked settings are as at the
+-- start, and each management memory is as it was at its own start, but for the 48 bytes that entry writes at the edition's header place,
+-- which are the same in both.
 use Prim.Native.Nat.{ℕ, _-_, _<_, suc}
 use mathlib.Core.Path.{_≡_}
 use mathlib.Core.Bool.{true, false, cond}
@@ -14,11 +15,12 @@ use Rattle.steps.specs.declared.Answer.the-variants.{Done}
 use Rattle.steps.specs.declared.Step.{Step}
 use Rattle.steps.specs.declared.Step.the-variants.{Reset, Wake}
 use Rattle.steps.specs.Answers.{numberOf}
-use Rattle.config.specs.Settings.{smiLock, smac, headerPlace, SameLocked}
+use Rattle.config.specs.Settings.{smiLock, smac, headerPlace}
+use Rattle.config.specs.Locked.{Fixed, SettingsFit}
 use Rattle.header.specs.declared.Saved.{Saved}
 use Rattle.header.specs.Header.{headerBytes}
 use Rattle.machine.specs.declared.Machine.{Machine}
-use Rattle.machine.specs.Service.{settingsOf}
+use Rattle.machine.specs.Machines.{settingsOf, editionOf}
 use Rattle.runs.specs.Runs.{Run, run, answersOf}
 use Rattle.isolation.specs.Service.{OnlyHeader}
 
@@ -27,6 +29,8 @@ pub record Start (m : Machine) : Type 0 where
   pub outside : m .inside ≡ false
   pub locked : smiLock (settingsOf m) ≡ true
   pub closed : smac (settingsOf m) ≡ false
+  -- its stored bytes are bytes, as those of every machine of the code's own type are
+  pub bytes : SettingsFit (settingsOf m)
   -- The machine may be halted and have an SMI latched, and the memories may be of wrong sizes.
 
 -- and of the steps
@@ -52,7 +56,8 @@ pub record Agree (m : Machine) (g h : List ℕ) (a b : Run) : Type 0 where
   pub events : a .events ≡ b .events
   pub machine : a .machine ≡ b .machine
   pub main : a .memory .main ≡ b .memory .main
-  pub settings : SameLocked (settingsOf (a .machine)) (settingsOf m)
+  pub edition : editionOf (a .machine) ≡ editionOf m
+  pub settings : Fixed (editionOf m) (settingsOf (a .machine)) (settingsOf m)
   pub before : (lastNumber (answersOf a) ≡ 11 → ⊥) → (a .memory .management ≡ g) × (b .memory .management ≡ h)
   pub entered : lastNumber (answersOf a) ≡ 11 → SameHeader m g h (a .memory .management) (b .memory .management)
 

@@ -4,3 +4,4 @@ pub mod Service
 pub mod Isolation
 pub mod Tightness
 pub mod Examples
+pub mod Editions

@@ -1,36 +1,28 @@
 -- Demand 1: what is refused, by which number, and that a refused step changes nothing.
 use Prim.Native.Nat.{ℕ}
 use mathlib.Core.Path.{_≡_}
-use mathlib.Core.Bool.{Bool, true, false, cond, not, _&&_}
-use Rattle.memory.specs.Memory.{Memories, there, operandLength}
+use mathlib.Core.Bool.{Bool, true, false, cond, not}
+use Rattle.memory.specs.Memory.{Memories, there}
 use Rattle.steps.specs.declared.Step.{Step}
 use Rattle.steps.specs.Answers.{numberOf, refusal}
 use Rattle.steps.specs.Steps.{byStep}
 use Rattle.refusals.specs.Refusals.{wrongSizes, malformedOn, programWhileHalted}
-use Rattle.opcodes.specs.declared.Operation.{Operation}
-use Rattle.opcodes.specs.declared.Operation.the-variants.{Save, Restore, Smint, Rsm, Undefined}
-use Rattle.opcodes.specs.Decode.{operationOf}
+use Rattle.opcodes.specs.Decode.{operationOf, operandSize}
 use Rattle.machine.specs.declared.Machine.{Machine}
+use Rattle.machine.specs.Machines.{editionOf}
 use Rattle.machine.specs.Steps.{valid, window, stepped}
 
 -- 4: an opcode step whose operation is not valid
 abbrev pub invalidOpcode : Machine → Step → Bool
 invalidOpcode m =
-    byStep (λ width a. false) (λ width a v. false) (λ op modrm a next. not (valid m (operationOf op modrm))) (λ smi current i. false) false
+    byStep (λ width a. false) (λ width a v. false) (λ op modrm a next. not (valid m (operationOf (editionOf m) op modrm)))
+    (λ smi current i. false) false
 
--- the operations that have an operand in memory
-abbrev pub hasOperand : Operation → Bool
-hasOperand (Save name) = true
-hasOperand (Restore name) = true
-hasOperand Smint = false
-hasOperand Rsm = false
-hasOperand Undefined = false
-
--- 5: a data or an operand byte that no memory answers
+-- 5: a data or an operand byte that no memory answers; an operation without an operand has none
 abbrev pub absentByte : Machine → Memories → Step → Bool
 absentByte m x =
     byStep (λ width a. not (there (window m) x a width)) (λ width a v. not (there (window m) x a width))
-    (λ op modrm a next. hasOperand (operationOf op modrm) && not (there (window m) x a operandLength)) (λ smi current i. false) false
+    (λ op modrm a next. not (there (window m) x a (operandSize (operationOf (editionOf m) op modrm)))) (λ smi current i. false) false
 
 -- the first of the five that is called for, in the order of their numbers, and 0 where none is
 unfoldable pub calledFor : Machine → Memories → Step → ℕ

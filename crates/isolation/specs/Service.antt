@@ -1,5 +1,6 @@
 -- Demand 2: which steps enter, what entry writes and loads, which steps resume and what they load, and what RSM right after entry loads back.
--- "Entered" is answer 11, "resumed" 12.
+-- "Entered" is answer 11, "resumed" 12. All of it is said of any machine: its edition decides where the header lies, whether it fits, and which
+-- byte is SMINT (02, request 1).
 use Prim.Native.Nat.{ℕ, _+_, _≤_, _<_}
 use mathlib.Core.Path.{_≡_}
 use mathlib.Core.Bool.{Bool, true, false, _||_}
@@ -19,11 +20,12 @@ use Rattle.opcodes.specs.Decode.{operationOf}
 use Rattle.config.specs.Settings.{regionIn, enabled, headerPlace}
 use Rattle.header.specs.declared.Saved.{Saved}
 use Rattle.header.specs.declared.Level.the-variants.{Zero}
-use Rattle.header.specs.Header.{headerBytes, resumed, withEip}
+use Rattle.header.specs.Header.{headerLength, headerBytes, resumed, withEip}
 use Rattle.header.specs.Entry.{entryCr0, entryCs}
 use Rattle.machine.specs.declared.Machine.{Machine}
 use Rattle.machine.specs.Outcomes.{Outcome}
-use Rattle.machine.specs.Service.{settingsOf, savedAtBoundary, savedBySmint}
+use Rattle.machine.specs.Machines.{settingsOf, editionOf}
+use Rattle.machine.specs.Service.{savedAtBoundary, savedBySmint}
 use Rattle.machine.specs.Steps.{valid, stepped}
 use Rattle.isolation.specs.Widths.{MachineFits}
 
@@ -33,12 +35,12 @@ answerTo m x s = numberOf (stepped m x s .stepped .answer)
 
 -- a memory is as it was but for 48 bytes from a place on, which all lie in it
 pub record OnlyHeader (g g′ : List ℕ) (at : ℕ) (bytes : List ℕ) : Type 0 where
-  pub long : length bytes ≡ 48
-  pub fits : at + 48 ≤ length g
+  pub long : length bytes ≡ headerLength
+  pub fits : at + headerLength ≤ length g
   pub same : length g′ ≡ length g
   pub below : (i : ℕ) → i < at → getD g′ i 0 ≡ getD g i 0
-  pub header : (i : ℕ) → i < 48 → getD g′ (at + i) 0 ≡ getD bytes i 0
-  pub above : (i : ℕ) → at + 48 ≤ i → getD g′ i 0 ≡ getD g i 0
+  pub header : (i : ℕ) → i < headerLength → getD g′ (at + i) 0 ≡ getD bytes i 0
+  pub above : (i : ℕ) → at + headerLength ≤ i → getD g′ i 0 ≡ getD g i 0
 
 -- The two ways to enter, each with its condition: a boundary outside the mode, where SMIs are enabled and one is asserted or latched, and a
 -- valid SMINT.
@@ -47,7 +49,7 @@ pub data Entering (m : Machine) : Step → Type 0 where
       → m .inside ≡ false → enabled (settingsOf m) ≡ true → (eqb smi 1 || m .latched) ≡ true
       → Entering m (Boundary smi current i)
   by-smint : {op modrm a next : ℕ}
-      → operationOf op modrm ≡ Smint → valid m Smint ≡ true
+      → operationOf (editionOf m) op modrm ≡ Smint → valid m Smint ≡ true
       → Entering m (Opcode op modrm a next)
 
 -- what each records, and how it leaves the latch
@@ -88,7 +90,7 @@ EntersAsStated = (m : Machine) (x : Memories) (s : Step) → answerTo m x s ≡ 
 
 -- the one way to resume: a valid RSM
 pub data Resuming (m : Machine) : Step → Type 0 where
-  by-rsm : {op modrm a next : ℕ} → operationOf op modrm ≡ Rsm → valid m Rsm ≡ true → Resuming m (Opcode op modrm a next)
+  by-rsm : {op modrm a next : ℕ} → operationOf (editionOf m) op modrm ≡ Rsm → valid m Rsm ≡ true → Resuming m (Opcode op modrm a next)
 
 -- It resumes, unless the step is refused.
 abbrev pub ResumesWhereDue : Type 0

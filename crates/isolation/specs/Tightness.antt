@@ -14,22 +14,23 @@ use Rattle.steps.specs.declared.Step.{Step}
 use Rattle.steps.specs.declared.Step.the-variants.{Reset}
 use Rattle.steps.specs.Answers.{numberOf}
 use Rattle.config.specs.Settings.{headerPlace}
-use Rattle.config.specs.Locked.{Fixed, SettingsFit}
+use Rattle.config.specs.Locked.{Fixed}
 use Rattle.header.specs.Header.{headerBytes, withEip}
 use Rattle.machine.specs.declared.Machine.{Machine}
-use Rattle.machine.specs.Machines.{machine}
+use Rattle.machine.specs.Machines.{machine, settingsOf, editionOf}
 use Rattle.machine.specs.Outcomes.{Outcome, gives, ends}
-use Rattle.machine.specs.Service.{settingsOf, entry, resume}
+use Rattle.machine.specs.Service.{entry, resume}
 use Rattle.runs.specs.Runs.{Run, run, answersOf}
+use Rattle.isolation.specs.Widths.{MachineFits}
 use Rattle.isolation.specs.Service.{OnlyHeader, Entering, recorded, latchAfter, Entry, Resumption, Resume}
 use Rattle.isolation.specs.Isolation.{Start, NoReset, UpToEntry, lastNumber, Agree, throughEntry}
 
 -- ---- the hypotheses ask for no more
 
--- CCR3 bit 0 set, CCR1 bit 2 clear, outside the mode
+-- CCR3 bit 0 set, CCR1 bit 2 clear, outside the mode, and numbers of their widths
 abbrev pub StartAsked : Type 0
 StartAsked =
-    (m : Machine) → m .inside ≡ false → m .config .settings .ccr3 % 2 ≡ 1 → m .config .settings .ccr1 / 4 % 2 ≡ 0 → Start m
+    (m : Machine) → m .inside ≡ false → m .config .settings .ccr3 % 2 ≡ 1 → m .config .settings .ccr1 / 4 % 2 ≡ 0 → MachineFits m → Start m
 
 -- any steps that are not resets
 abbrev pub NoResetAsked : Type 0
@@ -100,9 +101,9 @@ pub record Determined (m : Machine) (g h : List ℕ) (a b : Run) (c : Agree m g 
       → let at = headerPlace (settingsOf m) in
       let bytes = headerBytes (c .entered e .saved) in
       (a .memory .management ≡ sets g at bytes) × (b ≡ second a (sets h at bytes))
-  -- the locked settings as 01 lists them, of bytes
-  pub settings : SettingsFit (settingsOf (a .machine)) → SettingsFit (settingsOf m)
-      → Fixed (settingsOf (a .machine)) (settingsOf m) × Fixed (settingsOf (b .machine)) (settingsOf m)
+  -- both machines are of the edition of the start, with its locked settings
+  pub editions : (editionOf (a .machine) ≡ editionOf m) × (editionOf (b .machine) ≡ editionOf m)
+  pub settings : Fixed (editionOf m) (settingsOf (a .machine)) (settingsOf m) × Fixed (editionOf m) (settingsOf (b .machine)) (settingsOf m)
 
 abbrev pub AgreementDetermines : Type 0
 AgreementDetermines = (m : Machine) (g h : List ℕ) (a b : Run) (c : Agree m g h a b) → Determined m g h a b c

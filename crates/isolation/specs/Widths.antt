@@ -3,7 +3,7 @@ use Prim.Native.Nat.{_<_, _^_}
 use Rattle.memory.specs.declared.Segment.{Segment}
 use Rattle.config.specs.Locked.{SettingsFit}
 use Rattle.header.specs.ReadBack.{RegistersFit}
-use Rattle.machine.specs.declared.Segments.{Segments}
+use Rattle.segments.specs.declared.Segments.{Segments}
 use Rattle.machine.specs.declared.Machine.{Machine}
 
 pub record SegmentFits (s : Segment) : Type 0 where

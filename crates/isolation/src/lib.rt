@@ -5,7 +5,8 @@ ghost use Rattle.isolation.specs.Refusals.{RefusedAsCalledFor, RefusalCh
 ghost use Rattle.isolation.specs.Service.{EntersWhereDue, EntersAsStated, ResumesWhereDue, ResumesAsStated, ResumesAsEntered};
 ghost use Rattle.isolation.specs.Isolation.{Isolated, SameAnswers};
 ghost use Rattle.isolation.specs.Tightness.{StartAsked, NoResetAsked, UpToEntryAsked, LastIsLast, ThroughEntryAsked, WholeList, HeaderDetermines, EntryDetermines, ResumptionDetermines, ResumeDetermines, AgreementDetermines};
-ghost use Rattle.isolation.specs.Examples.{IsolationExample, EntryExamples, RefusalExamples};
+ghost use Rattle.isolation.specs.Editions.{EditionStays, LockHolds, NoService, SameWithoutNews, CommonAsked};
+ghost use Rattle.isolation.specs.Examples.{IsolationExamples, EntryExamples, RefusalExamples, LaterExamples, AlikeExample};
 
 // These hold the gate to the theorems, since a function is proved only with all that it ensures.
 fn demand_1()
@@ -26,7 +27,17 @@ fn demand_2()
 fn demand_3()
     ensures isolated { λ r. ⌜ Isolated ⌝ }
     ensures answers { λ r. ⌜ SameAnswers ⌝ }
-    ensures examples { λ r. ⌜ IsolationExample ⌝ }
+    ensures examples { λ r. ⌜ IsolationExamples ⌝ }
+{}
+
+fn editions()
+    ensures stays { λ r. ⌜ EditionStays ⌝ }
+    ensures lock { λ r. ⌜ LockHolds ⌝ }
+    ensures service { λ r. ⌜ NoService ⌝ }
+    ensures same { λ r. ⌜ SameWithoutNews ⌝ }
+    ensures common { λ r. ⌜ CommonAsked ⌝ }
+    ensures examples { λ r. ⌜ LaterExamples ⌝ }
+    ensures alike { λ r. ⌜ AlikeExample ⌝ }
 {}
 
 // What the hypotheses ask for, and what the claims settle.

@@ -9,6 +9,7 @@ use lib.ListN.{length, take, length-map}
 use Rattle.fields.proofs.Storing.{stored-front}
 use Rattle.memory.specs.Memory.{Memories}
 use Rattle.events.specs.Events.{noted}
+use Rattle.config.specs.declared.Edition.{Edition}
 use Rattle.machine.specs.declared.Machine.{Machine}
 use Rattle.machine.specs.Machines.{resetMachine}
 use Rattle.runs.proofs.Turns.{one-event-each}
@@ -49,12 +50,12 @@ writes-text l m x {p = p} {events₀ = events₀} {events = events} i w t =
     rw same at t
 
 -- the program's output, from the test that the code makes
-module _ (l : List ℕ) {size : ℕ} {out₀ out : List ℕ} where
-  pub prints-long : 65536 < length l → Printed longText size out₀ out → Printed (outputOf l) size out₀ out
+module _ (d : Edition) (l : List ℕ) {size : ℕ} {out₀ out : List ℕ} where
+  pub prints-long : 65536 < length l → Printed longText size out₀ out → Printed (outputOf d l) size out₀ out
   unfolding outputOf
   prints-long h w = rw (lt-leb _ _ h) w
 
-  pub prints-text : {m : Machine} → length l ≤ 65536 → m ≡ resetMachine → Printed (replayText m zeroMemories l) size out₀ out
-      → Printed (outputOf l) size out₀ out
+  pub prints-text : {m : Machine} → length l ≤ 65536 → m ≡ resetMachine d → Printed (replayText m zeroMemories l) size out₀ out
+      → Printed (outputOf d l) size out₀ out
   unfolding outputOf
   prints-text h e w = rw (le-leb _ _ h, ← e) w

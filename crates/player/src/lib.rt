@@ -1,3 +1,4 @@
+use config::Edition;
 use lines::Reason;
 use machine::Machine;
 use trace::Found;
@@ -84,14 +85,20 @@ pub fn replay(
     lines::write(&events, played.count, reason, out)
 }
 
-// All that the program prints for an input. The result is its size.
-pub fn output(input: &[u8], out: &mut [u8; 130006]) -> usize
-    ensures { λ r. ⌜ Printed (outputOf (now (input .entry))) r (now (out .entry)) (now (out .exit)) ⌝ }
+// All that the program of an edition prints for an input. The result is its size.
+pub fn output(edition: Edition, input: &[u8], out: &mut [u8; 130006]) -> usize
+    ensures { λ r. ⌜ Printed (outputOf edition (now (input .entry))) r (now (out .entry)) (now (out .exit)) ⌝ }
 {
     if 65536 < input.len() {
         return lines::write_long(out);
     }
     let mut main = [0u8; 65536];
     let mut management = [0u8; 65536];
-    replay(input, Machine::initial(), &mut main, &mut management, out)
+    replay(
+        input,
+        Machine::initial(edition),
+        &mut main,
+        &mut management,
+        out,
+    )
 }

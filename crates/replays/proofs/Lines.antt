@@ -15,10 +15,11 @@ use Rattle.steps.specs.Answers.{numberOf, valueOf}
 use Rattle.trace.specs.Trace.{foundAt, recordOf, recordBy}
 use Rattle.lines.specs.declared.Reason.{Reason}
 use Rattle.lines.specs.Lines.{lineOf, linesOf, wordOf, textOf}
+use Rattle.config.specs.declared.Edition.the-variants.{Mii}
 use Rattle.isolation.specs.Isolation.{throughEntry}
 use Rattle.isolation.proofs.Isolation.{same-answers}
 use Rattle.isolation.proofs.Tightness.{no-reset-asked}
-use Rattle.isolation.proofs.Examples.{isolation-example}
+use Rattle.isolation.proofs.Examples.{isolation-examples}
 use Rattle.player.specs.Player.{scriptFrom, scriptOf}
 use Rattle.replays.specs.Replays.{Begins, SameLines, oneWake, LinesExample}
 
@@ -55,7 +56,7 @@ one-wake = refl
 
 pub lines-example : LinesExample
 lines-example =
-    let e = isolation-example in
+    let e = isolation-examples Mii in
     record {
       start = e .start;
       equal = e .equal;

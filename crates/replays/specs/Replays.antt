@@ -13,6 +13,7 @@ use Rattle.lines.specs.Lines.{linesOf}
 use Rattle.player.specs.Player.{scriptOf, playing}
 use Rattle.player.specs.Output.{replayText}
 use Rattle.isolation.specs.Isolation.{Start, NoReset, throughEntry}
+use Rattle.config.specs.declared.Edition.the-variants.{Mii}
 use Rattle.isolation.specs.Examples.{locked, filled}
 
 -- the lines of a replay up to and including the first "entered", answer 11
@@ -37,7 +38,7 @@ abbrev pub oneWake : List ℕ
 oneWake = 2 ∷ 0 ∷ 10 ∷ 0 ∷ []
 
 pub record LinesExample : Type 0 where
-  pub start : Start locked
+  pub start : Start (locked Mii)
   pub equal : length (filled 0 .management) ≡ length (filled 1 .management)
   pub some : length (scriptOf oneWake .steps) ≡ 1
   pub none : NoReset (scriptOf oneWake .steps)

@@ -13,9 +13,9 @@ use Rattle.header.specs.declared.Registers.{Registers}
 use Rattle.header.specs.ReadBack.{RegistersFit}
 use Rattle.header.proofs.Registers as registers
 use Prim.Native.Nat.{_<_, _^_}
-use Rattle.machine.specs.declared.Segments.{Segments}
+use Rattle.segments.specs.declared.Segments.{Segments}
 use Rattle.isolation.specs.Widths.{SegmentFits, SegmentsFit}
-use Rattle.machine.proofs.Segments as segments
+use Rattle.segments.proofs.Segments as segments
 use Rattle.isolation.proofs.widths.Statement.{statement}
 use Rattle.isolation.proofs.widths.Tie as tie
 
@@ -40,8 +40,21 @@ segments-fit s vs h =
     }
 
 config-fits : (c : Config) (vs : List Val) → Is (row config.the-type) c vs → SettingsFit (c .settings) × (c .index < 2 ^ 8)
-config-fits c vs h =
-    (record { ccr1 = omega arith; ccr3 = omega arith; high = omega arith; middle = omega arith; low = omega arith }, omega arith)
+config-fits c vs h = (
+  record {
+    ccr1 = omega arith;
+    ccr3 = omega arith;
+    high = omega arith;
+    middle = omega arith;
+    low = omega arith;
+    ccr6 = omega arith;
+    smhr0 = omega arith;
+    smhr1 = omega arith;
+    smhr2 = omega arith;
+    smhr3 = omega arith;
+  },
+  omega arith,
+)
 
 returns : tie.Need-returns
 returns c =

@@ -1,8 +1,8 @@
 use mathlib.Core.Path.{ap, _∙_}
 use borrow.Author.Needs.{needs}
 use Rattle.export.specs.Export.{reasonNumber}
-use Rattle.export.proofs.rostuvlad_replay.Statement.{statement}
-use Rattle.export.proofs.rostuvlad_replay.Tie as tie
+use Rattle.export.proofs.replay.Statement.{statement}
+use Rattle.export.proofs.replay.Tie as tie
 
 initial-requires : tie.Need-initial-requires
 initial-requires c κs = search needs
@@ -23,10 +23,10 @@ returns : tie.Need-returns
 returns c =
     let played = c .before .before .before .before .before in
     let w = rw (played .before .before .before .before .initial .ensures) at (played .play .ensures) in
-    (w .leaves, c .reason-number .ensures ∙ ap reasonNumber (w .reason-is))
+    record { leaves = w .leaves; reason-is = c .reason-number .ensures ∙ ap reasonNumber (w .reason-is) }
 
-pub rostuvlad-replay-spec : {M : Type 1} → statement M
-rostuvlad-replay-spec =
+pub replay-spec : {M : Type 1} → statement M
+replay-spec =
     tie.close
     (tie.spec
     initial-requires
