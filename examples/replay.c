@@ -1,6 +1,6 @@
 /*
- * Replays 01's printed example, and then a trace on a management memory that the caller filled.
- * examples/run holds what this prints to what was worked out from 01 by hand.
+ * Replays 01's printed example, a trace on a management memory that the caller filled, and one on
+ * the later core. examples/run holds what this prints to what was worked out from 01 and 02 by hand.
  */
 #include <inttypes.h>
 #include <stdio.h>
@@ -39,16 +39,34 @@ static const uint8_t window[] = {
     2, 0, 10, 0,
 };
 
+static const uint8_t later[] = {
+    /* SMAR 000683h again, and CCR1 06h */
+    5, 0, 6, 0, 0x22, 0, 0xCE,
+    5, 0, 6, 0, 0x23, 0, 0x06,
+    5, 0, 6, 0, 0x22, 0, 0xCF,
+    5, 0, 6, 0, 0x23, 0, 0x83,
+    5, 0, 6, 0, 0x22, 0, 0xC1,
+    5, 0, 6, 0, 0x23, 0, 0x06,
+    /* write 4 100h 69000h; wrshr 100h next=1003h: the header ends at 69000h, in mid-region */
+    11, 0, 4, 0, 4, 0x00, 0x01, 0, 0, 0x00, 0x90, 0x06, 0,
+    12, 0, 7, 0, 0x37, 0x05, 0x00, 0x01, 0, 0, 0x03, 0x10, 0, 0,
+    /* CCR1 02h, a boundary with SMI at 1000h, and RSM */
+    5, 0, 6, 0, 0x22, 0, 0xC1,
+    5, 0, 6, 0, 0x23, 0, 0x02,
+    19, 0, 8, 0, 1, 0x00, 0x10, 0, 0, 0, 0, 0, 0, 0, 0, 0, 0, 0, 0, 0, 0,
+    12, 0, 7, 0, 0xAA, 0, 0, 0, 0, 0, 0, 0, 0, 0,
+};
+
 static uint8_t main_memory[65536];
 static uint8_t management[ROSTUVLAD_MANAGEMENT_SIZE];
 static uint64_t events[ROSTUVLAD_RECORD_LIMIT];
 
-static size_t replay(const uint8_t *trace, size_t length)
+static size_t replay(rostuvlad_player *player, const uint8_t *trace, size_t length)
 {
     static const char *const words[] = {"end", "limit", "torn", "bad"};
     uint8_t reason;
-    size_t count = rostuvlad_replay(trace, length, main_memory, sizeof main_memory,
-                                    management, sizeof management, events, &reason);
+    size_t count = player(trace, length, main_memory, sizeof main_memory,
+                          management, sizeof management, events, &reason);
 
     for (size_t i = 0; i < count; i++) {
         printf("%" PRIu8 " %08" PRIx32 "\n", rostuvlad_event_answer(events[i]),
@@ -58,24 +76,34 @@ static size_t replay(const uint8_t *trace, size_t length)
     return count;
 }
 
+static void show_management(size_t from, size_t to)
+{
+    printf("management %zXh to %zXh:", from, to);
+    for (size_t k = from; k <= to; k++) {
+        printf(" %02" PRIx8, management[k]);
+    }
+    putchar('\n');
+}
+
 int main(void)
 {
-    replay(printed, sizeof printed);
+    replay(rostuvlad_replay, printed, sizeof printed);
 
     for (size_t k = 0; k < sizeof management; k++) {
         management[k] = (uint8_t)k;
     }
-    size_t count = replay(window, sizeof window);
+    size_t count = replay(rostuvlad_replay, window, sizeof window);
     for (size_t i = 0; i < count; i++) {
         if (rostuvlad_event_inside(events[i])) {
             printf("record %zu, of kind %" PRIu8 ", was inside\n", i + 1,
                    rostuvlad_event_kind(events[i]));
         }
     }
-    printf("management 1Fh to 24h:");
-    for (size_t k = 0x1F; k <= 0x24; k++) {
-        printf(" %02" PRIx8, management[k]);
+    show_management(0x1F, 0x24);
+
+    replay(rostuvlad_replay_mii, later, sizeof later);
+    for (size_t from = 0xFC0; from <= 0x1000; from += 16) {
+        show_management(from, from + 15);
     }
-    putchar('\n');
     return 0;
 }

@@ -1,5 +1,5 @@
 /*
- * The proved player of 01 for C (C99) and C++. docs/LIBRARY.md says how to link it, and what is proved.
+ * The proved player of 01 and 02 for C (C99) and C++. docs/LIBRARY.md says how to link it, and what is proved.
  */
 #ifndef ROSTUVLAD_H
 #define ROSTUVLAD_H
@@ -61,10 +61,11 @@ enum rostuvlad_kind {
 };
 
 /*
- * Plays a trace from reset over two lent memories. The result is the count of records played.
+ * The two players below play a trace from reset over two lent memories. They differ only in the
+ * edition of the machine that they start from. The result is the count of records played.
  *
  * trace        trace_length bytes, any number; only read. (The limit of 65,536 bytes and the word
- *              "long" belong to the program replay.)
+ *              "long" belong to the programs replay and replay_mii.)
  * main_memory  main_length bytes, 0 to ROSTUVLAD_LARGEST_MAIN. Taken as lent, since reset clears no
  *              memory; it is left as the steps leave it.
  * management   management_length bytes, ROSTUVLAD_MANAGEMENT_SIZE; otherwise as main_memory.
@@ -85,10 +86,13 @@ enum rostuvlad_kind {
  * A call leaves nothing behind but what it wrote. So calls may run at once, in threads, each on
  * memories, events and a reason of its own; they may share a trace.
  */
-size_t rostuvlad_replay(const uint8_t *trace, size_t trace_length,
-                        uint8_t *main_memory, size_t main_length,
-                        uint8_t *management, size_t management_length,
-                        uint64_t events[ROSTUVLAD_RECORD_LIMIT], uint8_t *reason);
+typedef size_t rostuvlad_player(const uint8_t *trace, size_t trace_length,
+                                uint8_t *main_memory, size_t main_length,
+                                uint8_t *management, size_t management_length,
+                                uint64_t events[ROSTUVLAD_RECORD_LIMIT], uint8_t *reason);
+
+rostuvlad_player rostuvlad_replay;     /* the 486 edition */
+rostuvlad_player rostuvlad_replay_mii; /* the later core, the MII edition (02 request 1) */
 
 /* The answer to a record: an enum rostuvlad_answer. */
 static inline uint8_t rostuvlad_event_answer(uint64_t event)

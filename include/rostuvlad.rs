@@ -67,56 +67,92 @@ pub struct Replay {
     pub reason: Reason,
 }
 
-unsafe extern "C" {
-    // A slice passes as a pointer and a length, a reference to an array or a number as a pointer.
-    fn rostuvlad_replay(
-        trace: *const u8,
-        trace_len: usize,
-        main: *mut u8,
-        main_len: usize,
-        management: *mut u8,
-        management_len: usize,
-        events: *mut u64,
-        reason: *mut u8,
-    ) -> usize;
+macro_rules! players {
+    ($($player:ident)*) => {
+        unsafe extern "C" {
+            // A slice passes as a pointer and a length, a reference to an array or a number as a pointer.
+            $(fn $player(
+                trace: *const u8,
+                trace_len: usize,
+                main: *mut u8,
+                main_len: usize,
+                management: *mut u8,
+                management_len: usize,
+                events: *mut u64,
+                reason: *mut u8,
+            ) -> usize;)*
+        }
+    };
+}
+players!(rostuvlad_replay rostuvlad_replay_mii);
+
+/// The edition of the machine that a replay starts from.
+#[derive(Clone, Copy, Debug, Default, PartialEq, Eq)]
+pub enum Edition {
+    #[default]
+    Cx486,
+    /// The later core (02 request 1).
+    Mii,
 }
 
-/// Plays a trace from reset over two lent memories, into a log that is lent too. The result is the
-/// count of records, and why it stopped.
+impl Edition {
+    /// Plays a trace from reset over two lent memories, into a log that is lent too. The result is the
+    /// count of records, and why it stopped.
+    pub fn replay_into(
+        self,
+        trace: &[u8],
+        main: &mut [u8],
+        management: &mut [u8],
+        log: &mut [Event; RECORD_LIMIT],
+    ) -> (usize, Reason) {
+        let player = match self {
+            Edition::Cx486 => rostuvlad_replay,
+            Edition::Mii => rostuvlad_replay_mii,
+        };
+        let mut reason = 0;
+        // SAFETY: references keep what the library asks of pointers, and an Event is its number.
+        let count = unsafe {
+            player(
+                trace.as_ptr(),
+                trace.len(),
+                main.as_mut_ptr(),
+                main.len(),
+                management.as_mut_ptr(),
+                management.len(),
+                log.as_mut_ptr().cast(),
+                &mut reason,
+            )
+        };
+        let reason = match reason {
+            0 => Reason::End,
+            1 => Reason::Limit,
+            2 => Reason::Torn,
+            _ => Reason::Bad,
+        };
+        (count, reason)
+    }
+
+    /// The same, with a log of its own.
+    pub fn replay(self, trace: &[u8], main: &mut [u8], management: &mut [u8]) -> Replay {
+        let mut events = vec![Event::default(); RECORD_LIMIT];
+        let log = events.first_chunk_mut().expect("as many as it asks for");
+        let (count, reason) = self.replay_into(trace, main, management, log);
+        events.truncate(count);
+        Replay { events, reason }
+    }
+}
+
+/// `Edition::replay_into` of the 486 edition.
 pub fn replay_into(
     trace: &[u8],
     main: &mut [u8],
     management: &mut [u8],
     log: &mut [Event; RECORD_LIMIT],
 ) -> (usize, Reason) {
-    let mut reason = 0;
-    // SAFETY: references keep what the library asks of pointers, and an Event is its number.
-    let count = unsafe {
-        rostuvlad_replay(
-            trace.as_ptr(),
-            trace.len(),
-            main.as_mut_ptr(),
-            main.len(),
-            management.as_mut_ptr(),
-            management.len(),
-            log.as_mut_ptr().cast(),
-            &mut reason,
-        )
-    };
-    let reason = match reason {
-        0 => Reason::End,
-        1 => Reason::Limit,
-        2 => Reason::Torn,
-        _ => Reason::Bad,
-    };
-    (count, reason)
+    Edition::Cx486.replay_into(trace, main, management, log)
 }
 
-/// The same, with a log of its own.
+/// `Edition::replay` of the 486 edition.
 pub fn replay(trace: &[u8], main: &mut [u8], management: &mut [u8]) -> Replay {
-    let mut events = vec![Event::default(); RECORD_LIMIT];
-    let log = events.first_chunk_mut().expect("as many as it asks for");
-    let (count, reason) = replay_into(trace, main, management, log);
-    events.truncate(count);
-    Replay { events, reason }
+    Edition::Cx486.replay(trace, main, management)
 }

@@ -1,5 +1,6 @@
 //! Files that are read, and how a text is told from a binary trace.
 
+use crate::edition::Edition;
 use crate::form::first_record;
 use crate::text::{parse, Problem, Text};
 use std::ffi::OsStr;
@@ -106,15 +107,15 @@ pub fn is_text(bytes: &[u8]) -> bool {
     first_record(bytes).is_err() && (few || is_utf_16(bytes) || expects(bytes))
 }
 
-/// A text's lines, or what is wrong with it.
-pub fn read_text(name: &str, bytes: &[u8]) -> Result<Text, String> {
+/// A text's lines, or what is wrong with it, another edition than the one asked for too.
+pub fn read_text(name: &str, bytes: &[u8], asked: Option<Edition>) -> Result<Text, String> {
     if is_utf_16(bytes) {
         return Err(format!("{name}: UTF-16 text: save the file as UTF-8"));
     }
     if bytes.len() > TEXT_LIMIT {
         return Err(format!("{name}: longer than {TEXT_LIMIT} bytes"));
     }
-    parse(bytes).map_err(|problems| listed(name, &problems))
+    parse(bytes, asked).map_err(|problems| listed(name, &problems))
 }
 
 /// What is wrong with a file, a line for each of the first problems.

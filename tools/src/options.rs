@@ -1,5 +1,6 @@
 //! The words after tools/replay.
 
+use crate::edition::Edition;
 use crate::files::{name_of, place_of};
 use std::ffi::{OsStr, OsString};
 use std::os::unix::ffi::OsStrExt;
@@ -9,6 +10,7 @@ use std::path::PathBuf;
 pub struct Options {
     pub quiet: bool,
     pub lines: bool,
+    pub edition: Option<Edition>,
     pub main: Option<OsString>,
     pub management: Option<OsString>,
     pub save_main: Option<OsString>,
@@ -65,7 +67,7 @@ impl Options {
     }
 }
 
-/// An option and the file behind its `=`, if it has one.
+/// An option and what stands behind its `=`, if it has one.
 fn split(word: &OsStr) -> (String, Option<OsString>) {
     let bytes = word.as_bytes();
     match bytes.iter().position(|b| *b == b'=') {
@@ -74,6 +76,14 @@ fn split(word: &OsStr) -> (String, Option<OsString>) {
             Some(OsStr::from_bytes(&bytes[at + 1..]).into()),
         ),
         None => (word.to_string_lossy().into(), None),
+    }
+}
+
+/// What an option takes, kept where it is not given twice.
+fn keep<T>(kept: &mut Option<T>, value: T, option: &str) -> Result<(), String> {
+    match kept.replace(value) {
+        Some(_) => Err(format!("{option} is given twice")),
+        None => Ok(()),
     }
 }
 
@@ -89,24 +99,30 @@ pub fn parsed(mut words: impl Iterator<Item = OsString>) -> Result<Request, Stri
             continue;
         }
         let (option, given) = split(&word);
+        let mut behind = |what: &str, given: Option<OsString>| {
+            let taken = given.or_else(|| words.next());
+            let taken = taken.filter(|taken| !taken.is_empty());
+            taken.ok_or_else(|| format!("{option} lacks its {what}"))
+        };
         match (option.as_str(), &given) {
             ("--help" | "-h", None) => return Ok(Request::Help),
             ("--quiet" | "-q", None) => o.quiet = true,
             ("--lines", None) => o.lines = true,
+            ("--edition", _) => {
+                let edition = behind("edition", given)?;
+                let edition = Edition::named(&edition.to_string_lossy())?;
+                keep(&mut o.edition, edition, &option)?;
+            }
             _ => {
                 let kept = o.file(&option).ok_or_else(|| {
                     let word = name_of(&word);
                     format!("unknown option {word}: see --help; a file of this name goes behind --")
                 })?;
-                let file = given.or_else(|| words.next());
-                let file = file.filter(|file| !file.is_empty());
-                let file = file.ok_or_else(|| format!("{option} lacks its file"))?;
+                let file = behind("file", given)?;
                 if file == "-" {
                     return Err(format!("{option} takes a file, and not -"));
                 }
-                if kept.replace(file).is_some() {
-                    return Err(format!("{option} is given twice"));
-                }
+                keep(kept, file, &option)?;
             }
         }
     }

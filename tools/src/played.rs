@@ -1,5 +1,6 @@
 //! A trace played on the proved library: which records end in which line, and their answers.
 
+use crate::edition::Edition;
 use crate::form::{first_record, framing, Stop, INPUT_LIMIT};
 use crate::rostuvlad::{self, Event, Reason};
 use crate::show::show_record;
@@ -21,6 +22,7 @@ pub struct Played {
     events: Vec<Event>,
     /// The records that end in each place.
     ending: Vec<Range<usize>>,
+    edition: Edition,
     pub stop: Stop,
 }
 
@@ -43,12 +45,25 @@ fn stop_of(reason: Reason) -> Stop {
     }
 }
 
-/// Plays a trace; where there is no text, one that is too long.
-pub fn play(name: &str, text: Option<&Text>, memories: &mut Memories) -> Result<Played, String> {
+fn player_of(edition: Edition) -> rostuvlad::Edition {
+    match edition {
+        Edition::Cx486 => rostuvlad::Edition::Cx486,
+        Edition::Mii => rostuvlad::Edition::Mii,
+    }
+}
+
+/// Plays a trace in an edition; where there is no text, one that is too long.
+pub fn play(
+    name: &str,
+    text: Option<&Text>,
+    edition: Edition,
+    memories: &mut Memories,
+) -> Result<Played, String> {
     let placed = text.and_then(|text| text.placed(INPUT_LIMIT));
     let long = placed.is_none();
     let (bytes, places) = placed.unwrap_or_default();
-    let replay = rostuvlad::replay(&bytes, &mut memories.main, &mut memories.management);
+    let Memories { main, management } = memories;
+    let replay = player_of(edition).replay(&bytes, main, management);
     // Where records end is told by their form, and has to be what the library found.
     let (ends, stop) = framing(&bytes);
     if replay.events.len() != ends.len() || stop_of(replay.reason) != stop {
@@ -62,6 +77,7 @@ pub fn play(name: &str, text: Option<&Text>, memories: &mut Memories) -> Result<
         places,
         ends,
         events: replay.events,
+        edition,
         stop: if long { Stop::Long } else { stop },
     })
 }
@@ -89,7 +105,7 @@ impl Played {
 
     pub fn text_of(&self, record: usize) -> String {
         match first_record(&self.bytes[self.bytes_of(record)]) {
-            Ok((record, _)) => show_record(&record),
+            Ok((record, _)) => show_record(&record, self.edition),
             Err(_) => unreachable!("the record was played"),
         }
     }

@@ -3,6 +3,7 @@
 #![allow(dead_code)] // the modules are those of tools/trace too
 
 mod differences;
+mod edition;
 mod files;
 mod form;
 mod options;
@@ -16,6 +17,7 @@ mod text;
 mod words;
 
 use differences::{differences, other_reason, Tally};
+use edition::Edition;
 use files::{is_text, name_of, place_of, read_most, read_text, read_trace, reason_of};
 use form::INPUT_LIMIT;
 use options::{Options, Request};
@@ -68,23 +70,26 @@ fn save(path: Option<&OsString>, bytes: &[u8]) -> Result<(), String> {
 
 /// A trace as text, whatever form it has: that of a binary one is what `tools/trace text` shows.
 /// There is none of a binary one that is too long to be played.
-fn text_of(path: &OsStr) -> Result<Option<Text>, String> {
+fn text_of(path: &OsStr, asked: Option<Edition>) -> Result<Option<Text>, String> {
     let (name, bytes) = (name_of(path), read_trace(path)?);
     if is_text(&bytes) {
-        return read_text(&name, &bytes).map(Some);
+        return read_text(&name, &bytes, asked).map(Some);
     }
     if bytes.len() > INPUT_LIMIT {
         return Ok(None);
     }
-    read_text(&name, show::show_trace(&bytes).as_bytes()).map(Some)
+    let text = show::show_trace(&bytes, asked.unwrap_or_default());
+    read_text(&name, text.as_bytes(), asked).map(Some)
 }
 
 /// Replays a trace, and tells how many records it has, how much it expects and how much differs.
 fn replay(path: &OsStr, o: &Options, start: &Memories, out: &mut Output) -> Result<Tally, String> {
     let name = name_of(path);
-    let text = text_of(path)?;
+    let text = text_of(path, o.edition)?;
+    let edition = text.as_ref().map(|text| text.edition).or(o.edition);
+    let edition = edition.unwrap_or_default();
     let mut memories = start.clone();
-    let played = play(&name, text.as_ref(), &mut memories)?;
+    let played = play(&name, text.as_ref(), edition, &mut memories)?;
     let text = text.unwrap_or_default();
     let differences = differences(&text, &played);
     let tally = Tally::of(&text, &played, &differences);
@@ -109,7 +114,11 @@ fn replay(path: &OsStr, o: &Options, start: &Memories, out: &mut Output) -> Resu
             };
             report.show();
         }
-        out.line(&format!("{name}: {}, {reason}", tally.words()));
+        let edition = match edition {
+            Edition::Cx486 => String::new(),
+            Edition::Mii => format!(" ({})", edition.title()),
+        };
+        out.line(&format!("{name}{edition}: {}, {reason}", tally.words()));
     }
     save(o.save_main.as_ref(), &memories.main)?;
     save(o.save_management.as_ref(), &memories.management)?;

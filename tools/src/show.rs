@@ -1,18 +1,21 @@
 //! Bytes of a trace as text (docs/TRACES.md).
 
+use crate::edition::{Edition, RSM, SEGMENT_OPCODES};
 use crate::form::{
     first_record, Record, BOUNDARY, HALT, IN, OPCODE, OUT, READ, REGISTERS, RESET, WAKE, WRITE,
 };
-use crate::words::{
-    ADDRESS_ALONE, FIRST_OPERAND_OPCODE, INTERRUPTIONS, OPERAND_OPCODES, RSM, SEGMENTS, SMINT,
-};
+use crate::words::{ADDRESS_ALONE, INTERRUPTIONS, SEGMENTS};
 
 /// A line for each record, and `raw` lines for what is left at the first that is torn or bad: the
-/// text always stands for the same bytes.
-pub fn show_trace(mut bytes: &[u8]) -> String {
+/// text always stands for the same bytes. It says its edition where a text that says none is of
+/// another.
+pub fn show_trace(mut bytes: &[u8], edition: Edition) -> String {
     let mut out = String::new();
+    if edition != Edition::default() {
+        out.push_str(&format!("edition {}\n", edition.word()));
+    }
     while let Ok((record, rest)) = first_record(bytes) {
-        out.push_str(&show_record(&record));
+        out.push_str(&show_record(&record, edition));
         out.push('\n');
         bytes = rest;
     }
@@ -23,7 +26,7 @@ pub fn show_trace(mut bytes: &[u8]) -> String {
     out
 }
 
-pub fn show_record(record: &Record) -> String {
+pub fn show_record(record: &Record, edition: Edition) -> String {
     let mut f = Fields(record.body);
     match record.kind {
         RESET => "reset".into(),
@@ -44,6 +47,7 @@ pub fn show_record(record: &Record) -> String {
         IN => format!("in {}", f.show(2)),
         OUT => format!("out {} {}", f.show(2), f.show(1)),
         OPCODE => show_opcode(
+            edition,
             f.number(1) as u8,
             f.number(1) as u8,
             f.number(4),
@@ -81,20 +85,22 @@ impl Fields<'_> {
 }
 
 /// The mnemonic where it stands for just these bytes, else the general form.
-fn show_opcode(byte: u8, modrm: u8, address: u32, next: u32) -> String {
-    let (place, field) = (
-        byte.wrapping_sub(FIRST_OPERAND_OPCODE) as usize,
-        (modrm >> 3 & 7) as usize,
-    );
+fn show_opcode(edition: Edition, byte: u8, modrm: u8, address: u32, next: u32) -> String {
+    let mut named = edition.operand_opcodes().iter().enumerate();
+    let segment = SEGMENTS.get((modrm >> 3 & 7) as usize);
     let (shown_address, shown_next) = (show_number(address), show_number(next));
-    match (OPERAND_OPCODES.get(place), SEGMENTS.get(field)) {
-        (Some(name), Some(segment)) if place < 2 && modrm & 0xC7 == ADDRESS_ALONE => {
+    match (named.find(|(_, (_, known))| *known == byte), segment) {
+        (Some((place, (name, _))), Some(segment))
+            if place < SEGMENT_OPCODES && modrm & 0xC7 == ADDRESS_ALONE =>
+        {
             format!("{name} {segment} {shown_address} next={shown_next}")
         }
-        (Some(name), _) if place >= 2 && modrm == ADDRESS_ALONE => {
+        (Some((place, (name, _))), _) if place >= SEGMENT_OPCODES && modrm == ADDRESS_ALONE => {
             format!("{name} {shown_address} next={shown_next}")
         }
-        _ if byte == SMINT && (modrm, address) == (0, 0) => format!("smint next={shown_next}"),
+        _ if byte == edition.smint() && (modrm, address) == (0, 0) => {
+            format!("smint next={shown_next}")
+        }
         _ if byte == RSM && (modrm, address, next) == (0, 0, 0) => "rsm".into(),
         _ => format!(
             "opcode {} modrm={} address={shown_address} next={shown_next}",

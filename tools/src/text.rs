@@ -1,5 +1,6 @@
 //! A trace's text (docs/TRACES.md): its lines, what they expect, and the bytes that they stand for.
 
+use crate::edition::Edition;
 use crate::form::Stop;
 use crate::words::{hex, parse_number, quoted, record};
 use std::ops::Range;
@@ -54,6 +55,7 @@ impl Block {
 
 #[derive(Default)]
 pub struct Text {
+    pub edition: Edition,
     /// The file's lines as they stand.
     pub source: Vec<String>,
     pub lines: Vec<Line>,
@@ -162,8 +164,12 @@ fn without_comment(line: &str) -> (&str, Option<&str>) {
     }
 }
 
-pub fn parse(bytes: &[u8]) -> Result<Text, Vec<Problem>> {
+/// A text's lines. It is of the edition that it says, which has to be the one that is asked for, if
+/// any is; and of the one asked for, or else the 486 edition, where it says none.
+pub fn parse(bytes: &[u8], asked: Option<Edition>) -> Result<Text, Vec<Problem>> {
     let (mut problems, mut reading) = (Vec::new(), Reading::default());
+    reading.asked = asked;
+    reading.text.edition = asked.unwrap_or_default();
     for (index, line) in lines_of(bytes).enumerate() {
         let read = text_of(line).and_then(|line| reading.line(index + 1, line));
         if let Err(what) = read {
@@ -193,6 +199,9 @@ struct Open {
 struct Reading {
     text: Text,
     open: Option<Open>,
+    asked: Option<Edition>,
+    /// The line that says the edition.
+    said: Option<usize>,
 }
 
 impl Reading {
@@ -216,8 +225,9 @@ impl Reading {
         let Some(name) = words.first().map(|w| w.to_ascii_lowercase()) else {
             return self.reason(number, &right.unwrap_or_default());
         };
-        // With an error too it opens or closes, so that the lines after it are judged rightly.
+        // With an error too it does what it says, so that the lines after it are judged rightly.
         let done = match name.as_str() {
+            "edition" => self.edition(number, &words),
             "repeat" => self.repeat(number, &words),
             "end-repeat" => self.end_repeat(number, &words),
             _ => return self.record(number, &words, right.as_deref()),
@@ -225,6 +235,28 @@ impl Reading {
         match right {
             Some(_) => Err(format!("`{name}` has no expectation")),
             None => done,
+        }
+    }
+
+    fn edition(&mut self, number: usize, words: &[&str]) -> Result<(), String> {
+        if let Some(line) = self.said.replace(number) {
+            return Err(format!("line {line} says the edition already"));
+        }
+        if self.open.is_some() || !self.text.lines.is_empty() {
+            return Err("`edition` stands before the first record, raw or repeat line".into());
+        }
+        let edition = match words[1..] {
+            [word] => Edition::named(word)?,
+            _ => return Err("`edition` takes one name: mii or 486".into()),
+        };
+        self.text.edition = edition;
+        match self.asked.filter(|asked| *asked != edition) {
+            Some(asked) => Err(format!(
+                "the text is of the {}, but --edition says {}",
+                edition.title(),
+                asked.word()
+            )),
+            None => Ok(()),
         }
     }
 
@@ -301,7 +333,7 @@ impl Reading {
         }
         let line = Line {
             number,
-            bytes: record(words)?,
+            bytes: record(words, self.text.edition)?,
             raw: words[0].eq_ignore_ascii_case("raw"),
             expected: right.map(answer).transpose()?,
         };

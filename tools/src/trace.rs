@@ -3,6 +3,7 @@
 
 #![allow(dead_code)] // the modules are those of tools/replay too
 
+mod edition;
 mod files;
 mod form;
 mod output;
@@ -10,6 +11,7 @@ mod show;
 mod text;
 mod words;
 
+use edition::Edition;
 use files::{is_text, listed, name_of, read_text, read_trace, TEXT_LIMIT};
 use form::{framing, Stop, INPUT_LIMIT};
 use output::{tell, Output};
@@ -28,7 +30,7 @@ fn fail(problem: &str) -> ! {
 /// The text of a file that has to be one.
 fn text_in(name: &str, bytes: &[u8]) -> Result<Text, String> {
     if is_text(bytes) {
-        return read_text(name, bytes);
+        return read_text(name, bytes, None);
     }
     Err(format!(
         "{name}: a binary trace, not a text: `tools/trace text FILE` shows it as text"
@@ -96,13 +98,53 @@ fn played(text: &Text, bytes: &[u8], places: &[Place]) -> (String, Stop, Vec<Pro
     (out, stop, problems.collect())
 }
 
-fn put_text(name: &str, bytes: &[u8], out: &mut Output) -> Result<(), String> {
+/// What of a file goes to the output.
+enum Asked {
+    Bytes,
+    Text(Edition),
+    Expectation,
+    Edition,
+}
+
+fn asked(words: &[Option<&str>]) -> Result<Asked, String> {
+    match words {
+        [Some("bytes"), _] => Ok(Asked::Bytes),
+        [Some("text"), _] => Ok(Asked::Text(Edition::default())),
+        [Some("text"), Some("--edition"), Some(word), _] => Edition::named(word).map(Asked::Text),
+        [Some("text"), Some(option), _] if option.starts_with("--edition=") => {
+            Edition::named(&option["--edition=".len()..]).map(Asked::Text)
+        }
+        [Some("expect"), _] => Ok(Asked::Expectation),
+        [Some("edition"), _] => Ok(Asked::Edition),
+        _ => {
+            Err("not `bytes FILE`, `text FILE`, `expect FILE` or `edition FILE`: see --help".into())
+        }
+    }
+}
+
+fn put(asked: Asked, name: &str, bytes: &[u8], out: &mut Output) -> Result<(), String> {
+    match asked {
+        Asked::Bytes => text_in(name, bytes)?
+            .pieces()
+            .for_each(|piece| out.put(piece)),
+        Asked::Text(edition) => put_text(name, bytes, edition, out)?,
+        Asked::Expectation => {
+            let expected = expectation(&text_in(name, bytes)?);
+            let expected = expected.map_err(|problems| listed(name, &problems))?;
+            out.put(expected.as_bytes());
+        }
+        Asked::Edition => out.line(text_in(name, bytes)?.edition.word()),
+    }
+    Ok(())
+}
+
+fn put_text(name: &str, bytes: &[u8], edition: Edition, out: &mut Output) -> Result<(), String> {
     if !bytes.is_empty() && is_text(bytes) {
         tell(&format!(
             "{name}: looks like text; shown as the bytes of a trace"
         ));
     }
-    let text = show::show_trace(bytes);
+    let text = show::show_trace(bytes, edition);
     if bytes.len().max(text.len()) > TEXT_LIMIT {
         return Err(format!(
             "{name}: it or its text is longer than {TEXT_LIMIT} bytes"
@@ -112,39 +154,17 @@ fn put_text(name: &str, bytes: &[u8], out: &mut Output) -> Result<(), String> {
     Ok(())
 }
 
-fn put_bytes(name: &str, bytes: &[u8], out: &mut Output) -> Result<(), String> {
-    text_in(name, bytes)?
-        .pieces()
-        .for_each(|piece| out.put(piece));
-    Ok(())
-}
-
-fn put_expectation(name: &str, bytes: &[u8], out: &mut Output) -> Result<(), String> {
-    let expected = expectation(&text_in(name, bytes)?);
-    out.put(
-        expected
-            .map_err(|problems| listed(name, &problems))?
-            .as_bytes(),
-    );
-    Ok(())
-}
-
 fn main() {
     let args: Vec<OsString> = std::env::args_os().skip(1).collect();
     let words: Vec<Option<&str>> = args.iter().map(|word| word.to_str()).collect();
     let mut out = Output::new("tools/trace");
-    let put = match words[..] {
-        [Some("--help" | "-h")] => {
-            out.put(HELP.as_bytes());
-            return out.close();
-        }
-        [Some("bytes"), _] => put_bytes,
-        [Some("text"), _] => put_text,
-        [Some("expect"), _] => put_expectation,
-        _ => fail("tools/trace: not `bytes FILE`, `text FILE` or `expect FILE`: see --help"),
-    };
-    let path = &args[1];
-    let done = read_trace(path).and_then(|bytes| put(&name_of(path), &bytes, &mut out));
+    if let [Some("--help" | "-h")] = words[..] {
+        out.put(HELP.as_bytes());
+        return out.close();
+    }
+    let asked = asked(&words).unwrap_or_else(|problem| fail(&format!("tools/trace: {problem}")));
+    let path = &args[args.len() - 1];
+    let done = read_trace(path).and_then(|bytes| put(asked, &name_of(path), &bytes, &mut out));
     out.close();
     done.unwrap_or_else(|problem| fail(&problem));
 }

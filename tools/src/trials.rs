@@ -1,5 +1,5 @@
 //! The trials of tools/try that take many runs, from a repository's top, where tools/replay,
-//! tools/trace and target/bin/replay are built. Prints a line for each, and what failed.
+//! tools/trace and the proved programs are built. Prints a line for each, and what failed.
 
 use std::fs;
 use std::io::Write;
@@ -8,6 +8,11 @@ use std::process::{exit, Command, Output, Stdio};
 
 const RANDOM: usize = 1_000;
 const DAMAGED: usize = 1_000;
+/// Each edition, and its proved program.
+const EDITIONS: [(&str, &str); 2] = [
+    ("486", "target/bin/replay"),
+    ("mii", "target/bin/replay_mii"),
+];
 
 /// Numbers that are the same on each run, so that a failure can be looked at again.
 struct Random(u64);
@@ -66,6 +71,7 @@ fn fault(output: &Output, name: &str) -> Option<String> {
         let number = rest.and_then(|rest| rest.split(':').next());
         number.is_some_and(|number| number.parse::<usize>().is_ok())
             || line.ends_with(" more errors")
+            || line.ends_with(": UTF-16 text: save the file as UTF-8")
     };
     match output.status.code() {
         Some(0 | 1) if !told.is_empty() => Some(format!("said {told}")),
@@ -84,15 +90,19 @@ fn fault(output: &Output, name: &str) -> Option<String> {
     }
 }
 
-/// The trace's bytes as text and back, and its lines against those of the proved program.
-fn binary_fault(name: &str, bytes: &[u8]) -> Option<String> {
-    let text = run("target/tools/trace", &["text", name], b"");
+/// The trace's bytes as text of an edition and back, and its lines against those of the proved program.
+fn binary_fault(name: &str, bytes: &[u8], (edition, program): (&str, &str)) -> Option<String> {
+    let text = run(
+        "target/tools/trace",
+        &["text", "--edition", edition, name],
+        b"",
+    );
     let back = run("target/tools/trace", &["bytes", "-"], &text.stdout);
     if back.stdout != bytes {
         return Some("its text has other bytes".into());
     }
-    let lines = replay(&["--lines", name]);
-    let proved = run("target/bin/replay", &[], bytes);
+    let lines = replay(&["--lines", "--edition", edition, name]);
+    let proved = run(program, &[], bytes);
     match lines.status.code() {
         Some(0) if lines.stdout == proved.stdout => None,
         // Taken for a text with an error: the program has no record of it either.
@@ -203,7 +213,9 @@ fn tell(what: &str, faults: &[String]) -> bool {
 fn main() {
     let folder = std::env::args().nth(1).expect("a folder for files");
     let texts = files("traces");
-    let binaries: Vec<Vec<u8>> = files("crates/cases/data").iter().map(|p| read(p)).collect();
+    let mut binaries = files("crates/cases/data");
+    binaries.extend(files("crates/cases_mii/data"));
+    let binaries: Vec<Vec<u8>> = binaries.iter().map(|p| read(p)).collect();
     let mut random = Random(2_026);
     let mut ok = true;
 
@@ -238,7 +250,9 @@ fn main() {
         fs::write(&name, &bytes).expect("a file is written");
         let output = replay(&["--quiet", &name]);
         lines_seen += usize::from(!output.stdout.starts_with(format!("{name}: 0 ").as_bytes()));
-        let found = fault(&output, &name).or_else(|| binary_fault(&name, &bytes));
+        let mut editions = EDITIONS.into_iter();
+        let found = fault(&output, &name)
+            .or_else(|| editions.find_map(|edition| binary_fault(&name, &bytes, edition)));
         faults.extend(found.map(|fault| format!("{name}: {fault}")));
     }
     if lines_seen < RANDOM / 4 {
@@ -246,7 +260,7 @@ fn main() {
     }
     ok &= tell(
         &format!(
-            "{RANDOM} random byte strings: no panic, text and back, the proved program's lines"
+            "{RANDOM} random byte strings: no panic, text and back, the proved programs' lines"
         ),
         &faults,
     );

@@ -1,5 +1,6 @@
 //! The words of a line to a record's bytes (docs/TRACES.md).
 
+use crate::edition::{Edition, RSM, SEGMENT_OPCODES};
 use crate::form::{BOUNDARY, HALT, IN, OPCODE, OUT, READ, REGISTERS, RESET, WAKE, WRITE};
 
 pub const INTERRUPTIONS: [&str; 7] = [
@@ -12,11 +13,6 @@ pub const INTERRUPTIONS: [&str; 7] = [
     "rep-output",
 ];
 pub const SEGMENTS: [&str; 6] = ["es", "cs", "ss", "ds", "fs", "gs"];
-/// Opcodes 78h to 7Dh. The first two name a segment.
-pub const OPERAND_OPCODES: [&str; 6] = ["svdc", "rsdc", "svldt", "rsldt", "svts", "rsts"];
-pub const FIRST_OPERAND_OPCODE: u8 = 0x78;
-pub const SMINT: u8 = 0x7E;
-pub const RSM: u8 = 0xAA;
 /// ModRM of a mnemonic: an address alone (mod 0, r/m 5); the middle field is added.
 pub const ADDRESS_ALONE: u8 = 0x05;
 
@@ -153,8 +149,8 @@ impl Body {
     }
 }
 
-/// The bytes of the record that a line's words name, or of a `raw` line.
-pub fn record(words: &[&str]) -> Result<Vec<u8>, String> {
+/// The bytes of the record that a line's words name in this edition, or of a `raw` line.
+pub fn record(words: &[&str], edition: Edition) -> Result<Vec<u8>, String> {
     let name = words[0].to_ascii_lowercase();
     let mut w = Words {
         name: &name,
@@ -190,14 +186,14 @@ pub fn record(words: &[&str]) -> Result<Vec<u8>, String> {
                 w.key_number("next", 32)?,
             )
         }
-        "smint" => opcode(SMINT.into(), 0, 0, w.key_number("next", 32)?),
+        "smint" => opcode(edition.smint().into(), 0, 0, w.key_number("next", 32)?),
         "rsm" => opcode(RSM.into(), 0, 0, 0),
         "boundary" => boundary(&mut w)?,
         "raw" => return raw(&words[1..]),
-        name => match index_of(&OPERAND_OPCODES, name) {
-            Some(place) => operand_opcode(place, &mut w)?,
-            None => return Err(format!("{} is no record", quoted(words[0]))),
-        },
+        _ => {
+            let (place, byte) = edition.operand_opcode(words[0])?;
+            operand_opcode(place, byte, &mut w)?
+        }
     };
     w.done()?;
     Ok(bytes)
@@ -244,17 +240,16 @@ fn opcode(byte: u32, modrm: u32, address: u32, next: u32) -> Vec<u8> {
         .record(OPCODE)
 }
 
-fn operand_opcode(place: usize, w: &mut Words) -> Result<Vec<u8>, String> {
+fn operand_opcode(place: usize, byte: u8, w: &mut Words) -> Result<Vec<u8>, String> {
     let mut field = 0;
-    if place < 2 {
+    if place < SEGMENT_OPCODES {
         let name = w.next("segment")?;
         let wrong = || format!("{} is no segment: {}", quoted(name), SEGMENTS.join(", "));
         field = index_of(&SEGMENTS, name).ok_or_else(wrong)? as u32;
     }
     let address = w.next_number("address", 32)?;
-    let byte = u32::from(FIRST_OPERAND_OPCODE) + place as u32;
     Ok(opcode(
-        byte,
+        byte.into(),
         u32::from(ADDRESS_ALONE) | field << 3,
         address,
         w.key_number("next", 32)?,
