@@ -26,6 +26,14 @@ pub within-is : (r : Region) (a : ℕ) → Within r a → within r a ≡ true
 unfolding within
 within-is r a h = simp (h .in-usable, le-leb (r .base) a (h .low), lt-ltb a (r .base + sizeOf (r .code)) (h .high))
 
+-- an address without these is outside
+pub outside-is : (r : Region) (a : ℕ) → (Within r a → ⊥) → within r a ≡ false
+outside-is r a n = go (within r a) refl
+  where
+    go : (t : Bool) → within r a ≡ t → within r a ≡ false
+    go false e = e
+    go true e = absurd (n (within-has r a e))
+
 module _ (r : Region) (a b k : ℕ) (l : a ≤ k) (h : k ≤ b) where
   -- between two addresses in it every address is in it
   pub within-between : within r a ≡ true → within r b ≡ true → within r k ≡ true
@@ -36,18 +44,14 @@ module _ (r : Region) (a b k : ℕ) (l : a ≤ k) (h : k ≤ b) where
 
   -- and between two outside it that are less than the least size apart none is
   pub outside-between : b < a + 4096 → within r a ≡ false → within r b ≡ false → within r k ≡ false
-  outside-between m e f = go (within r k) refl
+  outside-between m e f = outside-is r k (below (leb (r .base) a) refl)
     where
-      unlike : {A : Type 0} (c : ℕ) → within r c ≡ false → Within r c → A
-      unlike c g w = absurd (true≢false (sym (within-is r c w) ∙ g))
+      unlike : (c : ℕ) → within r c ≡ false → Within r c → ⊥
+      unlike c g w = true≢false (sym (within-is r c w) ∙ g)
 
-      below : (t : Bool) → leb (r .base) a ≡ t → Within r k → within r k ≡ false
+      below : (t : Bool) → leb (r .base) a ≡ t → Within r k → ⊥
       below true g p = unlike a e (record { in-usable = p .in-usable; low = leb-true (r .base) a g; high = omega (arith, p .high) })
       below false g p =
           let u = usable-has r (p .in-usable) in
           let n = leb-false (r .base) a g in
           unlike b f (record { in-usable = p .in-usable; low = omega (arith, p .low); high = omega (arith, u .least) })
-
-      go : (t : Bool) → within r k ≡ t → within r k ≡ false
-      go false g = g
-      go true g = below (leb (r .base) a) refl (within-has r k g)

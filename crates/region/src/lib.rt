@@ -2,6 +2,7 @@ ghost use mathlib.Core.Path.{_≡_};
 ghost use Prim.Native.Nat.{_%_, _≤_};
 ghost use lib.Dec.{eqb};
 ghost use Rattle.region.specs.Region.{regionOf, sizeOf, largestCode, usable, within};
+ghost use Rattle.region.specs.Ends.{NoneAbove, LastWithin};
 
 const LARGEST_CODE: u8 = 5;
 
@@ -62,12 +63,16 @@ impl Region {
         ensures { λ r. ⌜ r ≡ within self address ⌝ }
     {
         if self.is_usable() {
-            let base = self.base as u64;
-            if base <= address {
-                return address < base + size_of(self.code);
-            }
-            return false;
+            // The base is a multiple of the size, a power of two: so an address in the region has the base's bits from the size up.
+            let mask = !(size_of(self.code) - 1);
+            return address & mask == self.base as u64;
         }
         false
     }
 }
+
+// No code of the model: it holds the gate to what regions are at 2^32.
+fn limits()
+    ensures above { λ r. ⌜ NoneAbove ⌝ }
+    ensures last { λ r. ⌜ LastWithin ⌝ }
+{}
