@@ -1,6 +1,7 @@
 // Times the replay alone: traces of 5,000 four-byte accesses, half of them in the region, reads and writes in turn. Each run has a trace of
-// its own, since a processor learns one that is played again and again by heart. Both memories are cleared before each run, outside the
-// time. Prints the best and the median of as many runs as the argument says, 3,000 without one.
+// its own, since a processor learns one that is played again and again by heart. Every other access is in the region; with the second
+// argument `shuffled` they come in a random order. Both memories are cleared before each run, outside the time. Prints the best and the
+// median of as many runs as the first argument says, 3,000 without one.
 //
 //   tools/build library && rustc -O bench/main.rs -L target/staticlib -l static=export -o target/replay-bench && target/replay-bench
 use std::time::Instant;
@@ -30,7 +31,7 @@ fn write(trace: &mut Vec<u8>, address: u32, value: u32) {
 }
 
 // SMAR 000683h, 16 KiB at 68000h, with USE_SMI and SMAC: the region's bytes go to management memory.
-fn trace(start: u64) -> Vec<u8> {
+fn trace(start: u64, shuffled: bool) -> Vec<u8> {
     let mut t = vec![];
     for (index, value) in [(0xCD, 0x00), (0xCE, 0x06), (0xCF, 0x83), (0xC1, 0x06)] {
         out(&mut t, 0x22, index);
@@ -41,8 +42,14 @@ fn trace(start: u64) -> Vec<u8> {
         seed = seed.wrapping_mul(6_364_136_223_846_793_005).wrapping_add(1_442_695_040_888_963_407);
         (seed >> 33) as u32
     };
+    let mut inside: Vec<bool> = (0..ACCESSES).map(|i| i % 2 == 0).collect();
+    if shuffled {
+        for i in (1..ACCESSES).rev() {
+            inside.swap(i, random() as usize % (i + 1));
+        }
+    }
     for i in 0..ACCESSES {
-        let address = if i % 2 == 0 { 0x68000 + random() % (16_384 - 3) } else { random() % (MEMORY as u32 - 3) };
+        let address = if inside[i] { 0x68000 + random() % (16_384 - 3) } else { random() % (MEMORY as u32 - 3) };
         if i / 2 % 2 == 0 {
             read(&mut t, address);
         } else {
@@ -54,10 +61,13 @@ fn trace(start: u64) -> Vec<u8> {
 
 fn main() {
     let runs: usize = std::env::args().nth(1).map_or(3_000, |n| n.parse().expect("a number of runs"));
+    let order = std::env::args().nth(2);
+    assert!(order.as_deref().map_or(true, |word| word == "shuffled"), "the second argument is `shuffled` or nothing");
+    let shuffled = order.is_some();
     let (mut main, mut management, mut log) = (vec![0; MEMORY], vec![0; MEMORY], [Event::default(); RECORD_LIMIT]);
     let mut times = vec![];
     for run in 0..runs {
-        let t = trace(12_345 + run as u64);
+        let t = trace(12_345 + run as u64, shuffled);
         main.fill(0);
         management.fill(0);
         let start = Instant::now();
