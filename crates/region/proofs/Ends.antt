@@ -6,9 +6,9 @@ use native.Mathlib.Omega.{arith}
 use lib.Pow.{pow-pos, high-ones}
 use borrow.Author.Tests.{le-leb, eq-eqb}
 use Rattle.region.specs.declared.Region.{Region}
-use Rattle.region.specs.Region.{sizeOf, usable}
-use Rattle.region.specs.Ends.{NoneAbove, lastRegion, LastWithin}
-use Rattle.region.proofs.Laws.{within-is, outside-is}
+use Rattle.region.specs.Region.{sizeOf, usable, within}
+use Rattle.region.specs.Ends.{spaceEnd, NoneAbove, lastRegion, LastReaches}
+use Rattle.region.proofs.Laws.{outside-is}
 use Rattle.region.proofs.Sizes.{size-power, size-small}
 use Rattle.region.proofs.Usable.{usable-has}
 
@@ -35,16 +35,18 @@ module _ (n : ℕ) (named : 1 ≤ n) (small : n ≤ 14) where
       let m = mul-le-mul-right s (le-of-suc-le-suc (div-lt-iff-lt-mul {k = s} {x = b} {y = suc times} positive .1 l)) in
       omega (arith, last-base, div-add-mod' b s)
 
-pub none-above : NoneAbove
+pub none-above : (r : Region) (a : ℕ) → r .base < 4294967296 → NoneAbove r a
 none-above r a l h = outside-is r a (λ w.
     let u = usable-has r (w .in-usable) in
     omega (arith, w .high, room (r .code) (u .named) (omega (arith, u .small)) (r .base) (u .aligned) l))
 
-pub last-within : LastWithin
-unfolding usable
-last-within n l h =
+pub last-reaches : LastReaches
+unfolding within usable
+last-reaches n a l h =
     let k : n ≤ 14 = omega (arith, h) in
     let p = positive n l k in
     let f = size-small n l k in
-    let d = eq-eqb ((4294967296 - sizeOf n) % sizeOf n) 0 (ap (λ (b : ℕ). b % sizeOf n) (last-base n l k) ∙ mul-mod-left (times n l k) (sizeOf n)) in
-    within-is (lastRegion n) _ (record { in-usable = simp (le-leb 1 n l, le-leb n 5 h, d); low = omega arith; high = omega arith })
+    let b : lastRegion n .base ≡ times n l k * sizeOf n = omega (arith, last-base n l k) in
+    let d = eq-eqb (lastRegion n .base % sizeOf n) 0 (ap (λ (x : ℕ). x % sizeOf n) b ∙ mul-mod-left (times n l k) (sizeOf n)) in
+    let e : lastRegion n .base + sizeOf n ≡ spaceEnd = omega arith in
+    simp (le-leb 1 n l, le-leb n 5 h, d, e)

@@ -2,7 +2,7 @@ ghost use mathlib.Core.Path.{_≡_};
 ghost use Prim.Native.Nat.{_%_, _≤_};
 ghost use lib.Dec.{eqb};
 ghost use Rattle.region.specs.Region.{regionOf, sizeOf, largestCode, usable, within};
-ghost use Rattle.region.specs.Ends.{NoneAbove, LastWithin};
+ghost use Rattle.region.specs.Ends.{NoneAbove, LastReaches};
 
 const LARGEST_CODE: u8 = 5;
 
@@ -72,7 +72,7 @@ impl Region {
 }
 
 // No code of the model: it holds the gate to what regions are at 2^32.
-fn limits()
-    ensures above { λ r. ⌜ NoneAbove ⌝ }
-    ensures last { λ r. ⌜ LastWithin ⌝ }
+fn limits(region: Region, address: u64)
+    ensures above { λ r. ⌜ NoneAbove region address ⌝ }
+    ensures last { λ r. ⌜ LastReaches ⌝ }
 {}
