@@ -1,4 +1,4 @@
--- 01, "Forty-eight bytes below the top": the twelve words of the header, and what RSM reads back from them.
+-- 01, "Forty-eight bytes below the top", and 02, request 3: the twelve words of the header, and what RSM reads back from them.
 use Prim.Native.Nat.{ℕ, _+_, _*_, _/_, _%_, _-_}
 use mathlib.Core.Bool.{Bool, true, false, cond}
 use mathlib.Core.List.{List, [], _∷_, map, flatMap}
@@ -50,16 +50,20 @@ trapOf (StringOutput t i) = trap true false (portSize t) (cut t) i
 trapOf (RepInput i) = trap false true 0 0 i
 trapOf (RepOutput t i) = trap true true (portSize t) (cut t) i
 
--- What entry at a boundary records. Next IP is EIP. Current IP is the address that the boundary gives, but EIP on a halted machine.
+-- What entry at a boundary records. Current IP is the address that the boundary gives, but EIP on a halted machine. Next IP is EIP, but for a
+-- REP form it is current IP: 01 has EIP for every boundary, and 02, request 3, mends that (000, section 3.3.1). A halted machine meets no REP
+-- form: that is malformed.
 abbrev pub boundarySaved : Registers → Bool → ℕ → Interruption → Saved
-boundarySaved r halted current i = record {
-  registers = r;
-  current = cond halted (r .eip) current;
-  next = r .eip;
-  trap = trapOf i;
-  smint = false;
-  halted = halted;
-}
+boundarySaved r halted current i =
+    let ip = cond halted (r .eip) current in
+    record {
+      registers = r;
+      current = ip;
+      next = cond (trapOf i .rep) ip (r .eip);
+      trap = trapOf i;
+      smint = false;
+      halted = halted;
+    }
 
 -- What entry by SMINT records. Next IP is the step's next address; current IP is EIP.
 abbrev pub smintSaved : Registers → Bool → ℕ → Saved

@@ -151,10 +151,11 @@ pub fn saved_at_boundary(
     ensures { λ r. ⌜ r ≡ boundarySaved registers halted current interruption ⌝ }
 {
     let trap = trap_of(interruption);
+    let current = fields::either(halted, registers.eip, current);
     Saved {
         registers: registers,
-        current: fields::either(halted, registers.eip, current),
-        next: registers.eip,
+        current: current,
+        next: fields::either(trap.rep, current, registers.eip),
         trap: trap,
         smint: false,
         halted: halted,

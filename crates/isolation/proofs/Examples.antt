@@ -1,6 +1,6 @@
 -- The examples. Their management memories are taken as any list of the right length: none is ever written out. Assumes nothing.
 use mathlib.Core.Path.{_≡_, refl, sym, ap, _∙_}
-use mathlib.Core.Bool.{Bool, true, false, and-false}
+use mathlib.Core.Bool.{Bool, true, false, cond, and-false}
 use mathlib.Core.List.{List, [], _∷_}
 use Prim.Native.Nat.{ℕ, _<_, _^_}
 use native.Mathlib.Omega.{arith}
@@ -10,10 +10,11 @@ use Rattle.fields.specs.Fields.{numberBy}
 use Rattle.memory.specs.Memory.{Memories, memories, absent, allThere}
 use Rattle.steps.specs.declared.Answer.the-variants.{Done}
 use Rattle.steps.specs.Answers.{refusal}
-use Rattle.steps.specs.declared.Interruption.the-variants.{None}
+use Rattle.steps.specs.declared.Interruption.{Interruption}
+use Rattle.steps.specs.declared.Interruption.the-variants.{None, Input, Output, StringInput, StringOutput, RepInput, RepOutput}
 use Rattle.steps.specs.declared.Step.{Step}
 use Rattle.steps.specs.declared.Step.the-variants.{Read, PortRead, Opcode, Boundary, UnnamedBoundary, Halt}
-use Rattle.steps.specs.Widths.{StepFits}
+use Rattle.steps.specs.Widths.{TransferFits, InterruptionFits, StepFits}
 use Rattle.steps.specs.Steps.{isWidth, kindOf}
 use Rattle.refusals.specs.declared.Verdict.the-variants.{Allowed}
 use Rattle.refusals.specs.Refusals.{wrongSizes, malformedOn, programWhileHalted, firstRefusal}
@@ -22,26 +23,31 @@ use Rattle.config.specs.declared.Edition.{Edition}
 use Rattle.config.specs.declared.Edition.the-variants.{Cx486, Mii}
 use Rattle.config.specs.Settings.{windowOf, headerEnd, headerFits, headerPlace, enabled, opcodesAllowed, withSmhr}
 use Rattle.config.specs.Ports.{internal, alwaysInternal}
+use Rattle.header.specs.Header.{trapOf}
 use Rattle.opcodes.specs.declared.Operation.the-variants.{Smint}
 use Rattle.opcodes.specs.Decode.{smintOpcode, operationOf, grouped}
 use Rattle.machine.specs.declared.Machine.{Machine}
 use Rattle.segments.specs.Segments.{resetSegments}
 use Rattle.machine.specs.Machines.{withHalted}
-use Rattle.machine.specs.Outcomes.{ends}
+use Rattle.machine.specs.Outcomes.{Outcome, ends}
 use Rattle.machine.specs.Steps.{permitted, valid, haltStep, performed, stepped}
 use Rattle.isolation.specs.Widths.{SegmentFits, MachineFits}
 use Rattle.runs.specs.Runs.{run, answersOf}
 use Rattle.isolation.specs.Refusals.{calledFor}
-use Rattle.isolation.specs.Service.{Entering}
+use Rattle.isolation.specs.Service.{Entering, PointersBy}
 use Rattle.isolation.specs.Service.Entering.{at-boundary, by-smint}
 use Rattle.isolation.specs.Isolation.{NoReset, UpToEntry, lastNumber}
-use Rattle.isolation.specs.Examples.{sampleSettings, sample, locked, underSmac, filled, stepsToEntry, rsm, IsolationExamples, EntryExample, EntryExamples, RefusalExamples, LaterExamples, AlikeExample}
-use Rattle.isolation.proofs.Service.{performs, resumed-allowed, enters-where-due, resumes-as-stated, resumes-as-entered}
+use Rattle.isolation.specs.Examples.{sampleSettings, sample, locked, underSmac, filled, stepsToEntry, rsm, IsolationExamples, EntryExample, EntryExamples, PointersExample, byteOut, PointersExamples, RefusalExamples, LaterExamples, AlikeExample}
+use Rattle.isolation.proofs.Service.{performs, answered-allowed, enters-where-due, resumes-as-stated, resumes-as-entered}
+use Rattle.isolation.proofs.Pointers.{pointers-as-stated}
 use Rattle.isolation.proofs.Tightness.{no-reset-asked, up-to-entry-asked}
 
--- the boundary and the SMINT that enter
+-- the boundaries and the SMINT that enter
+abbrev met : Interruption → Step
+met i = Boundary 1 0x1000 i
+
 abbrev entering : Step
-entering = Boundary 1 0x1000 None
+entering = met None
 
 abbrev smint : Edition → Step
 smint e = Opcode (smintOpcode e) 0 0 0x1002
@@ -52,9 +58,9 @@ unfolding headerFits headerEnd regionOf sizeOf
 header-fits Cx486 ccr1 ccr3 = refl
 header-fits Mii ccr1 ccr3 = refl
 
-due-at-boundary : (e : Edition) (halted : Bool) → Entering (withHalted (locked e) halted) entering
+due-at-boundary : (e : Edition) (halted : Bool) (i : Interruption) → Entering (withHalted (locked e) halted) (met i)
 unfolding enabled usable regionOf sizeOf
-due-at-boundary e halted = at-boundary refl (rw (header-fits e 0x02 0x01)) refl
+due-at-boundary e halted i = at-boundary refl (rw (header-fits e 0x02 0x01)) refl
 
 is-smint : (e : Edition) → operationOf e (smintOpcode e) 0 ≡ Smint
 unfolding operationOf
@@ -76,9 +82,9 @@ module _ (g : List ℕ) (long : length g ≡ 65536) where
   pub allowed : (halted : Bool) (s : Step) → malformedOn halted s ≡ false → programWhileHalted halted s ≡ false → firstRefusal halted x s ≡ Allowed
   allowed halted s formed awake = taken-allowed halted x s (record { sizes = whole; formed = formed; awake = awake })
 
-  boundary-allowed : (halted : Bool) → firstRefusal halted x entering ≡ Allowed
-  unfolding malformedOn programWhileHalted
-  boundary-allowed halted = allowed halted entering (and-false halted) (and-false halted)
+  boundary-allowed : (halted : Bool) (i : Interruption) → malformedOn halted (met i) ≡ false → firstRefusal halted x (met i) ≡ Allowed
+  unfolding programWhileHalted
+  boundary-allowed halted i formed = allowed halted (met i) formed (and-false halted)
 
   module _ (e : Edition) where
     called-for : (calledFor (locked e) x Halt ≡ 0)
@@ -117,7 +123,8 @@ module _ (g : List ℕ) (long : length g ≡ 65536) where
     ends-at-entry = rw answers (up-to-entry-asked .2 Done _ [] (λ e. omega arith) (up-to-entry-asked .1 _))
 
     enters-last : lastNumber (answersOf (run (locked e) x stepsToEntry)) ≡ 11
-    enters-last = rw answers (enters-where-due (withHalted (locked e) true) x entering (boundary-allowed true) (due-at-boundary e true))
+    unfolding malformedOn
+    enters-last = rw answers (enters-where-due (withHalted (locked e) true) x entering (boundary-allowed true None refl) (due-at-boundary e true None))
 
 pub full : (b : ℕ) → length (replicate 65536 b) ≡ 65536
 full b = length-replicate 65536 b
@@ -186,7 +193,7 @@ entry-example m s f w may by =
       by = by;
       entered = e;
       back = record {
-        allowed = resumed-allowed (o .stepped .machine) (o .memory) rsm r;
+        allowed = answered-allowed (o .stepped .machine) (o .memory) rsm (omega (arith, r));
         by = resumes-as-stated (o .stepped .machine) (o .memory) rsm r .by;
         resumed = r;
       };
@@ -195,14 +202,57 @@ entry-example m s f w may by =
 locked-fits : (e : Edition) → MachineFits (locked e)
 locked-fits e = sample-fits e 0x02 0x01 (omega arith) (omega arith)
 
+halted-fits : (e : Edition) (halted : Bool) → MachineFits (withHalted (locked e) halted)
+halted-fits e halted =
+    let f = locked-fits e in record { registers = f .registers; segments = f .segments; settings = f .settings; index = f .index }
+
 smint-fits : (e : Edition) → StepFits (smint e)
 smint-fits Cx486 = (omega arith, omega arith, omega arith, omega arith)
 smint-fits Mii = (omega arith, omega arith, omega arith, omega arith)
 
+-- one at a boundary, and its IP words
+module _ (e : Edition) (halted : Bool) (i : Interruption) (formed : malformedOn halted (met i) ≡ false) (fits : InterruptionFits i) where
+  abbrev before : Machine
+  before = withHalted (locked e) halted
+
+  abbrev after : Outcome
+  after = stepped before (filled 0) (met i)
+
+  met-fits : StepFits (met i)
+  met-fits = (omega arith, omega arith, fits)
+
+  boundary-example : EntryExample before (met i)
+  boundary-example =
+      entry-example before (met i) (halted-fits e halted) met-fits (boundary-allowed (replicate 65536 0) (full 0) halted i formed)
+      (due-at-boundary e halted i)
+
+  pointed : PointersBy before 0x1000 i after (stepped (after .stepped .machine) (after .memory) rsm)
+  pointed = pointers-as-stated before (filled 0) 1 0x1000 i 0 0 0 (halted-fits e halted) met-fits (boundary-example .entered)
+
+  with-rep : trapOf i .rep ≡ true → PointersExample before i 0x1000 0x1000
+  with-rep p = record { entry = boundary-example; pointers = pointed .rep p }
+
+  without-rep : trapOf i .rep ≡ false → PointersExample before i (cond halted 0xfff0 0x1000) 0xfff0
+  without-rep p = record { entry = boundary-example; pointers = pointed .other p }
+
+pub pointers-examples : PointersExamples
+unfolding malformedOn isWidth
+pointers-examples e =
+    let out : TransferFits byteOut = record { port = omega arith; size = omega arith; value = omega arith } in (
+      with-rep e false (RepInput 0x5000) refl (omega arith) refl,
+      with-rep e false (RepOutput byteOut 0x5000) refl (out, omega arith) refl,
+      without-rep e false None refl tt refl,
+      without-rep e false Input refl tt refl,
+      without-rep e false (Output byteOut) refl out refl,
+      without-rep e false (StringInput 0x5000) refl (omega arith) refl,
+      without-rep e false (StringOutput byteOut 0x5000) refl (out, omega arith) refl,
+      without-rep e true None refl tt refl,
+    )
+
 pub entry-examples : EntryExamples
+unfolding malformedOn
 entry-examples e = (
-  entry-example (locked e) entering (locked-fits e) (omega arith, omega arith, tt)
-      (boundary-allowed (replicate 65536 0) (full 0) false) (due-at-boundary e false),
+  boundary-example e false None refl tt,
   entry-example (underSmac e) (smint e) (sample-fits e 0x06 0x01 (omega arith) (omega arith)) (smint-fits e)
       (smint-allowed (replicate 65536 0) (full 0) e) (due-by-smint e),
 )

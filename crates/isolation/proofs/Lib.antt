@@ -4,6 +4,7 @@ pub mod Doing
 pub mod Refusals
 pub mod Entering
 pub mod Service
+pub mod Pointers
 pub mod Isolation
 pub mod Tightness
 pub mod Examples

@@ -43,11 +43,11 @@ pub performs : (m : Machine) (x : Memories) (s : Step) → firstRefusal (m .halt
 unfolding stepped
 performs m x s e = ap (decided m x s) e
 
--- and one that resumes is allowed
-pub resumed-allowed : (m : Machine) (x : Memories) (s : Step) → answerTo m x s ≡ 12 → firstRefusal (m .halted) x s ≡ Allowed
+-- and one that is answered by more than 3 is allowed
+pub answered-allowed : (m : Machine) (x : Memories) (s : Step) → 3 < answerTo m x s → firstRefusal (m .halted) x s ≡ Allowed
 unfolding stepped
-resumed-allowed m x s =
-    by-verdict (m .halted) x s (λ v. numberOf (decided m x s v .stepped .answer) ≡ 12 → v ≡ Allowed)
+answered-allowed m x s =
+    by-verdict (m .halted) x s (λ v. 3 < numberOf (decided m x s v .stepped .answer) → v ≡ Allowed)
     (λ k h. absurd (omega arith)) (λ k h. absurd (omega arith)) (λ k h. absurd (omega arith)) (λ t h. refl)
 
 -- ---- which steps enter, and which resume
@@ -128,14 +128,16 @@ trap-fits (StringOutput t index) f = (transfer-fits t (f .0), cut-fits t (f .0),
 trap-fits (RepInput index) f = (omega arith, omega arith, f)
 trap-fits (RepOutput t index) f = (transfer-fits t (f .0), cut-fits t (f .0), f .1)
 
-recorded-fits : (m : Machine) {s : Step} (by : Entering m s) → MachineFits m → StepFits s → SavedFits (recorded m by)
+pub recorded-fits : (m : Machine) {s : Step} (by : Entering m s) → MachineFits m → StepFits s → SavedFits (recorded m by)
 recorded-fits m (at-boundary {smi} {current} {i} outside on asked) f w =
     let r = f .registers in
     let k = trap-fits i (w .2) in
+    let P : ℕ → Type 0 = λ n. n < 2 ^ 32 in
+    let ip = either P (m .halted) (λ h. r .eip) (λ h. w .1) in
     record {
       registers = r;
-      current = either (λ (n : ℕ). n < 2 ^ 32) (m .halted) (λ h. r .eip) (λ h. w .1);
-      next = r .eip;
+      current = ip;
+      next = either P (trapOf i .rep) (λ h. ip) (λ h. r .eip);
       transfer = k .0;
       value = k .1;
       index = k .2;

@@ -7,7 +7,9 @@ use lib.ListN.{length, replicate}
 use Rattle.memory.specs.Memory.{Memories, memories}
 use Rattle.steps.specs.declared.Step.{Step}
 use Rattle.steps.specs.declared.Step.the-variants.{Reset, Read, PortRead, Opcode, Boundary, UnnamedBoundary, Halt}
-use Rattle.steps.specs.declared.Interruption.the-variants.{None}
+use Rattle.steps.specs.declared.Transfer.{Transfer}
+use Rattle.steps.specs.declared.Interruption.{Interruption}
+use Rattle.steps.specs.declared.Interruption.the-variants.{None, Input, Output, StringInput, StringOutput, RepInput, RepOutput}
 use Rattle.steps.specs.Answers.{refusal}
 use Rattle.steps.specs.Widths.{StepFits}
 use Rattle.refusals.specs.declared.Verdict.the-variants.{Allowed}
@@ -21,12 +23,12 @@ use Rattle.config.specs.declared.Settings.{Settings}
 use Rattle.opcodes.specs.Decode.{smintOpcode}
 use Rattle.machine.specs.declared.Machine.{Machine}
 use Rattle.segments.specs.Segments.{resetSegments}
-use Rattle.machine.specs.Machines.{machine, settingsOf, resetRegisters}
+use Rattle.machine.specs.Machines.{machine, settingsOf, resetRegisters, withHalted}
 use Rattle.machine.specs.Steps.{stepped}
 use Rattle.isolation.specs.Widths.{MachineFits}
 use Rattle.runs.specs.Runs.{run, answersOf}
 use Rattle.isolation.specs.Refusals.{calledFor}
-use Rattle.isolation.specs.Service.{answerTo, Entering, Resuming}
+use Rattle.isolation.specs.Service.{answerTo, Entering, Resuming, Pointers}
 use Rattle.isolation.specs.Isolation.{Start, NoReset, UpToEntry, lastNumber}
 
 -- Settings of an edition: SMAR 000683h, which is 16 KiB at 68000h, and SMHR 6A001h in its midst; CCR1 and CCR3 as given.
@@ -97,6 +99,28 @@ pub record EntryExample (m : Machine) (s : Step) : Type 0 where
 abbrev pub EntryExamples : Type 0
 EntryExamples =
     (e : Edition) → EntryExample (locked e) (Boundary 1 0x1000 None) × EntryExample (underSmac e) (Opcode (smintOpcode e) 0 0 0x1002)
+
+-- 02, request 3: an entry from EIP FFF0h at a boundary with current address 1000h. Current IP and next IP are 1000h twice for the two REP forms,
+-- 1000h and FFF0h for the other five interruptions, and FFF0h twice for a halted machine.
+pub record PointersExample (m : Machine) (i : Interruption) (current next : ℕ) : Type 0 where
+  pub entry : EntryExample m (Boundary 1 0x1000 i)
+  pub pointers : let e = stepped m (filled 0) (Boundary 1 0x1000 i) in
+      Pointers m e (stepped (e .stepped .machine) (e .memory) rsm) current next
+
+abbrev pub byteOut : Transfer
+byteOut = record { port = 0x3f8; size = 1; value = 0x41 }
+
+abbrev pub PointersExamples : Type 0
+PointersExamples =
+    (e : Edition)
+    → PointersExample (locked e) (RepInput 0x5000) 0x1000 0x1000
+    × PointersExample (locked e) (RepOutput byteOut 0x5000) 0x1000 0x1000
+    × PointersExample (locked e) None 0x1000 0xfff0
+    × PointersExample (locked e) Input 0x1000 0xfff0
+    × PointersExample (locked e) (Output byteOut) 0x1000 0xfff0
+    × PointersExample (locked e) (StringInput 0x5000) 0x1000 0xfff0
+    × PointersExample (locked e) (StringOutput byteOut 0x5000) 0x1000 0xfff0
+    × PointersExample (withHalted (locked e) true) None 0xfff0 0xfff0
 
 -- demand 1: in either edition a step that no refusal is called for, one for each of the five, and one that is refused
 abbrev pub RefusalExamples : Type 0

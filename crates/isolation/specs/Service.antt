@@ -1,9 +1,9 @@
 -- Demand 2: which steps enter, what entry writes and loads, which steps resume and what they load, and what RSM right after entry loads back.
 -- "Entered" is answer 11, "resumed" 12. All of it is said of any machine: its edition decides where the header lies, whether it fits, and which
--- byte is SMINT (02, request 1).
+-- byte is SMINT (02, request 1). At the end, where RSM goes after a REP form (02, request 3).
 use Prim.Native.Nat.{ℕ, _+_, _≤_, _<_}
 use mathlib.Core.Path.{_≡_}
-use mathlib.Core.Bool.{Bool, true, false, _||_}
+use mathlib.Core.Bool.{Bool, true, false, cond, _||_}
 use mathlib.Core.List.{List}
 use lib.Dec.{eqb}
 use lib.ListN.{length, getD}
@@ -20,7 +20,8 @@ use Rattle.opcodes.specs.Decode.{operationOf}
 use Rattle.config.specs.Settings.{regionIn, enabled, headerPlace}
 use Rattle.header.specs.declared.Saved.{Saved}
 use Rattle.header.specs.declared.Level.the-variants.{Zero}
-use Rattle.header.specs.Header.{headerLength, headerBytes, resumed, withEip}
+use Rattle.header.specs.Header.{trapOf, headerLength, headerBytes, wordIn, resumed, withEip}
+use Rattle.header.specs.Header.Word.{CurrentIp, NextIp}
 use Rattle.header.specs.Entry.{entryCr0, entryCs}
 use Rattle.machine.specs.declared.Machine.{Machine}
 use Rattle.machine.specs.Outcomes.{Outcome}
@@ -129,3 +130,23 @@ ResumesAsEntered =
     (m : Machine) (x : Memories) (s : Step) (modrm a next : ℕ) → MachineFits m → StepFits s → (entered : answerTo m x s ≡ 11)
     → let e = stepped m x s in
     (by : Entering m s) → Resume m s by e (stepped (e .stepped .machine) (e .memory) (Opcode 0xaa modrm a next))
+
+-- 02, request 3: the two IP words that an entry at a boundary writes, and EIP after RSM. m is before entry, e is after it, and o is after RSM.
+pub record Pointers (m : Machine) (e o : Outcome) (current next : ℕ) : Type 0 where
+  pub current-ip : wordIn (e .memory .management) (headerPlace (settingsOf m)) CurrentIp ≡ current
+  pub next-ip : wordIn (e .memory .management) (headerPlace (settingsOf m)) NextIp ≡ next
+  pub eip : o .stepped .machine .registers .eip ≡ next
+
+-- With a REP form both are the boundary's current address. With any other interruption, or none, next IP is EIP, and current IP is the
+-- boundary's current address, or EIP on a halted machine. (A halted one that meets a REP form is refused.)
+pub record PointersBy (m : Machine) (current : ℕ) (i : Interruption) (e o : Outcome) : Type 0 where
+  pub rep : trapOf i .rep ≡ true → Pointers m e o current current
+  pub other : trapOf i .rep ≡ false → Pointers m e o (cond (m .halted) (m .registers .eip) current) (m .registers .eip)
+
+-- so it is at every boundary that enters, with RSM right after it, where every number has the width of its type
+abbrev pub PointersAsStated : Type 0
+PointersAsStated =
+    (m : Machine) (x : Memories) (smi current : ℕ) (i : Interruption) (modrm a next : ℕ) → MachineFits m → StepFits (Boundary smi current i)
+    → answerTo m x (Boundary smi current i) ≡ 11
+    → let e = stepped m x (Boundary smi current i) in
+    PointersBy m current i e (stepped (e .stepped .machine) (e .memory) (Opcode 0xaa modrm a next))

@@ -11,18 +11,21 @@ use Rattle.memory.specs.Memory.{Memories, memories}
 use Rattle.steps.specs.declared.Answer.{Answer}
 use Rattle.steps.specs.declared.Answer.the-variants.{Done, Resumed}
 use Rattle.steps.specs.declared.Step.{Step}
-use Rattle.steps.specs.declared.Step.the-variants.{Reset}
+use Rattle.steps.specs.declared.Step.the-variants.{Reset, Boundary}
+use Rattle.steps.specs.declared.Interruption.{Interruption}
 use Rattle.steps.specs.Answers.{numberOf}
+use Rattle.refusals.specs.Refusals.{malformedOn}
 use Rattle.config.specs.Settings.{headerPlace}
 use Rattle.config.specs.Locked.{Fixed}
-use Rattle.header.specs.Header.{headerBytes, withEip}
+use Rattle.header.specs.Header.{headerBytes, wordIn, withEip}
+use Rattle.header.specs.Header.Word.{CurrentIp, NextIp}
 use Rattle.machine.specs.declared.Machine.{Machine}
 use Rattle.machine.specs.Machines.{machine, settingsOf, editionOf}
 use Rattle.machine.specs.Outcomes.{Outcome, gives, ends}
-use Rattle.machine.specs.Service.{entry, resume}
+use Rattle.machine.specs.Service.{savedAtBoundary, entry, resume}
 use Rattle.runs.specs.Runs.{Run, run, answersOf}
 use Rattle.isolation.specs.Widths.{MachineFits}
-use Rattle.isolation.specs.Service.{OnlyHeader, Entering, recorded, latchAfter, Entry, Resumption, Resume}
+use Rattle.isolation.specs.Service.{OnlyHeader, Entering, recorded, latchAfter, Entry, Resumption, Resume, PointersBy}
 use Rattle.isolation.specs.Isolation.{Start, NoReset, UpToEntry, lastNumber, Agree, throughEntry}
 
 -- ---- the hypotheses ask for no more
@@ -89,6 +92,15 @@ ResumeDetermines =
     ≡ ends
     (gives (machine (withEip (m .registers) (recorded m by .next)) (m .segments) false false (e .stepped .machine .latched) (m .config)) Resumed)
     (e .memory)
+
+-- and the IP words of a well-formed boundary, with EIP after RSM
+abbrev pub PointersDetermine : Type 0
+PointersDetermine =
+    (m : Machine) (smi current : ℕ) (i : Interruption) (e o : Outcome) → malformedOn (m .halted) (Boundary smi current i) ≡ false
+    → PointersBy m current i e o
+    → let s = savedAtBoundary m current i in
+    let word = wordIn (e .memory .management) (headerPlace (settingsOf m)) in
+    (word CurrentIp ≡ s .current) × (word NextIp ≡ s .next) × (o .stepped .machine .registers .eip ≡ s .next)
 
 -- the second run is the first with another management memory
 abbrev pub second : Run → List ℕ → Run

@@ -2,11 +2,11 @@
 use machine::Machine;
 ghost use Rattle.isolation.specs.Widths.{MachineFits};
 ghost use Rattle.isolation.specs.Refusals.{RefusedAsCalledFor, RefusalChangesNothing};
-ghost use Rattle.isolation.specs.Service.{EntersWhereDue, EntersAsStated, ResumesWhereDue, ResumesAsStated, ResumesAsEntered};
+ghost use Rattle.isolation.specs.Service.{EntersWhereDue, EntersAsStated, ResumesWhereDue, ResumesAsStated, ResumesAsEntered, PointersAsStated};
 ghost use Rattle.isolation.specs.Isolation.{Isolated, SameAnswers};
-ghost use Rattle.isolation.specs.Tightness.{StartAsked, NoResetAsked, UpToEntryAsked, LastIsLast, ThroughEntryAsked, WholeList, HeaderDetermines, EntryDetermines, ResumptionDetermines, ResumeDetermines, AgreementDetermines};
+ghost use Rattle.isolation.specs.Tightness.{StartAsked, NoResetAsked, UpToEntryAsked, LastIsLast, ThroughEntryAsked, WholeList, HeaderDetermines, EntryDetermines, ResumptionDetermines, ResumeDetermines, PointersDetermine, AgreementDetermines};
 ghost use Rattle.isolation.specs.Editions.{EditionStays, LockHolds, NoService, SameWithoutNews, CommonAsked};
-ghost use Rattle.isolation.specs.Examples.{IsolationExamples, EntryExamples, RefusalExamples, LaterExamples, AlikeExample};
+ghost use Rattle.isolation.specs.Examples.{IsolationExamples, EntryExamples, PointersExamples, RefusalExamples, LaterExamples, AlikeExample};
 
 // These hold the gate to the theorems, since a function is proved only with all that it ensures.
 fn demand_1()
@@ -21,7 +21,9 @@ fn demand_2()
     ensures back { λ r. ⌜ ResumesWhereDue ⌝ }
     ensures resumes { λ r. ⌜ ResumesAsStated ⌝ }
     ensures returns { λ r. ⌜ ResumesAsEntered ⌝ }
+    ensures pointers { λ r. ⌜ PointersAsStated ⌝ }
     ensures examples { λ r. ⌜ EntryExamples ⌝ }
+    ensures rep { λ r. ⌜ PointersExamples ⌝ }
 {}
 
 fn demand_3()
@@ -55,6 +57,7 @@ fn claims()
     ensures entry { λ r. ⌜ EntryDetermines ⌝ }
     ensures resumption { λ r. ⌜ ResumptionDetermines ⌝ }
     ensures resume { λ r. ⌜ ResumeDetermines ⌝ }
+    ensures pointers { λ r. ⌜ PointersDetermine ⌝ }
     ensures agreement { λ r. ⌜ AgreementDetermines ⌝ }
 {}
 
