@@ -37,7 +37,7 @@ use Rattle.isolation.specs.Refusals.{calledFor}
 use Rattle.isolation.specs.Service.{Entering, PointersBy}
 use Rattle.isolation.specs.Service.Entering.{at-boundary, by-smint}
 use Rattle.isolation.specs.Isolation.{NoReset, UpToEntry, lastNumber}
-use Rattle.isolation.specs.Examples.{sampleSettings, sample, locked, underSmac, filled, stepsToEntry, rsm, IsolationExamples, EntryExample, EntryExamples, PointersExample, byteOut, PointersExamples, RefusalExamples, LaterExamples, AlikeExample}
+use Rattle.isolation.specs.Examples.{sampleSettings, sample, locked, underSmac, filled, stepsToEntry, rsm, IsolationExamples, EntryExample, SmintExamples, BoundaryExample, byteOut, BoundaryExamples, RefusalExamples, LaterExamples, AlikeExample}
 use Rattle.isolation.proofs.Service.{performs, answered-allowed, enters-where-due, resumes-as-stated, resumes-as-entered}
 use Rattle.isolation.proofs.Pointers.{pointers-as-stated}
 use Rattle.isolation.proofs.Tightness.{no-reset-asked, up-to-entry-asked}
@@ -221,23 +221,23 @@ module _ (e : Edition) (halted : Bool) (i : Interruption) (formed : malformedOn 
   met-fits : StepFits (met i)
   met-fits = (omega arith, omega arith, fits)
 
-  boundary-example : EntryExample before (met i)
-  boundary-example =
+  entered-there : EntryExample before (met i)
+  entered-there =
       entry-example before (met i) (halted-fits e halted) met-fits (boundary-allowed (replicate 65536 0) (full 0) halted i formed)
       (due-at-boundary e halted i)
 
   pointed : PointersBy before 0x1000 i after (stepped (after .stepped .machine) (after .memory) rsm)
-  pointed = pointers-as-stated before (filled 0) 1 0x1000 i 0 0 0 (halted-fits e halted) met-fits (boundary-example .entered)
+  pointed = pointers-as-stated before (filled 0) 1 0x1000 i 0 0 0 (halted-fits e halted) met-fits (entered-there .entered)
 
-  with-rep : trapOf i .rep ≡ true → PointersExample before i 0x1000 0x1000
-  with-rep p = record { entry = boundary-example; pointers = pointed .rep p }
+  with-rep : trapOf i .rep ≡ true → BoundaryExample before i 0x1000 0x1000
+  with-rep p = record { entry = entered-there; pointers = pointed .rep p }
 
-  without-rep : trapOf i .rep ≡ false → PointersExample before i (cond halted 0xfff0 0x1000) 0xfff0
-  without-rep p = record { entry = boundary-example; pointers = pointed .other p }
+  without-rep : trapOf i .rep ≡ false → BoundaryExample before i (cond halted 0xfff0 0x1000) 0xfff0
+  without-rep p = record { entry = entered-there; pointers = pointed .other p }
 
-pub pointers-examples : PointersExamples
+pub boundary-examples : BoundaryExamples
 unfolding malformedOn isWidth
-pointers-examples e =
+boundary-examples e =
     let out : TransferFits byteOut = record { port = omega arith; size = omega arith; value = omega arith } in (
       with-rep e false (RepInput 0x5000) refl (omega arith) refl,
       with-rep e false (RepOutput byteOut 0x5000) refl (out, omega arith) refl,
@@ -249,13 +249,10 @@ pointers-examples e =
       without-rep e true None refl tt refl,
     )
 
-pub entry-examples : EntryExamples
-unfolding malformedOn
-entry-examples e = (
-  boundary-example e false None refl tt,
-  entry-example (underSmac e) (smint e) (sample-fits e 0x06 0x01 (omega arith) (omega arith)) (smint-fits e)
-      (smint-allowed (replicate 65536 0) (full 0) e) (due-by-smint e),
-)
+pub smint-examples : SmintExamples
+smint-examples e =
+    entry-example (underSmac e) (smint e) (sample-fits e 0x06 0x01 (omega arith) (omega arith)) (smint-fits e)
+    (smint-allowed (replicate 65536 0) (full 0) e) (due-by-smint e)
 
 steps-none : NoReset stepsToEntry
 steps-none =

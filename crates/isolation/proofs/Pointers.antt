@@ -6,7 +6,6 @@ use native.Mathlib.Omega.{arith}
 use Rattle.memory.specs.Memory.{Memories}
 use Rattle.steps.specs.declared.Interruption.{Interruption}
 use Rattle.steps.specs.declared.Interruption.the-variants.{None, Input, Output, StringInput, StringOutput, RepInput, RepOutput}
-use Rattle.steps.specs.declared.Step.{Step}
 use Rattle.steps.specs.declared.Step.the-variants.{Boundary}
 use Rattle.steps.specs.Steps.{malformed, otherThanNone}
 use Rattle.steps.specs.Widths.{StepFits}
@@ -49,31 +48,27 @@ at-one : (m : Machine) {smi current : ℕ} {i : Interruption} (by : Entering m (
     → recorded m by ≡ savedAtBoundary m current i
 at-one m (at-boundary outside on asked) = refl
 
-module _ (m : Machine) (x : Memories) (smi current : ℕ) (i : Interruption) (f : MachineFits m) (w : StepFits (Boundary smi current i))
-    (h : answerTo m x (Boundary smi current i) ≡ 11) where
-  abbrev s : Step
-  s = Boundary smi current i
-
-  word-back : (v : Word) → wordIn (stepped m x s .memory .management) (headerPlace (settingsOf m)) v ≡ contents (savedAtBoundary m current i) v
-  unfolding entry
-  word-back v =
-      let e = enters m x s h in
-      rw (e .outcome)
-      (words-back (x .management) (headerPlace (settingsOf m)) (recorded m (e .by)) (room m x (e .able)) (recorded-fits m (e .by) f w) v
-      ∙ ap (λ r. contents r v) (at-one m (e .by)))
-
-  rep-is-awake : trapOf i .rep ≡ true → m .halted ≡ false
-  rep-is-awake = rep-awake (m .halted) smi current i (allowed-taken (m .halted) x s (answered-allowed m x s (omega (arith, h))) .formed)
+-- each word that it writes is found
+word-back : (m : Machine) (x : Memories) (smi current : ℕ) (i : Interruption) → MachineFits m → StepFits (Boundary smi current i)
+    → answerTo m x (Boundary smi current i) ≡ 11 → (v : Word)
+    → wordIn (stepped m x (Boundary smi current i) .memory .management) (headerPlace (settingsOf m)) v ≡ contents (savedAtBoundary m current i) v
+unfolding entry
+word-back m x smi current i f w h v =
+    let e = enters m x (Boundary smi current i) h in
+    rw (e .outcome)
+    (words-back (x .management) (headerPlace (settingsOf m)) (recorded m (e .by)) (room m x (e .able)) (recorded-fits m (e .by) f w) v
+    ∙ ap (λ r. contents r v) (at-one m (e .by)))
 
 pub pointers-as-stated : PointersAsStated
 pointers-as-stated m x smi current i modrm a next f w h =
     let s = Boundary smi current i in
     let by = enters m x s h .by in
+    let taken = allowed-taken (m .halted) x s (answered-allowed m x s (omega (arith, h))) in
     let word = word-back m x smi current i f w h in
     let back = ap (λ r. r .eip) (resumes-as-entered m x s modrm a next f w h by .registers) ∙ ap (λ r. r .next) (at-one m by) in
     record {
       rep = λ e.
-          let awake = rep-is-awake m x smi current i f w h e in
+          let awake = rep-awake (m .halted) smi current i (taken .formed) e in
           record { current-ip = word CurrentIp ∙ rw awake; next-ip = word NextIp ∙ rw (e, awake); eip = back ∙ rw (e, awake) };
       other = λ e. record { current-ip = word CurrentIp; next-ip = word NextIp ∙ rw e; eip = back ∙ rw e };
     }

@@ -79,7 +79,7 @@ pub record IsolationExample (e : Edition) : Type 0 where
 abbrev pub IsolationExamples : Type 0
 IsolationExamples = (e : Edition) → IsolationExample e
 
--- demand 2: an entry at a boundary, and one by SMINT, of numbers of their widths, in either edition; and RSM right after each
+-- demand 2: entries at boundaries, and one by SMINT, of numbers of their widths, in either edition; and RSM right after each
 abbrev pub rsm : Step
 rsm = Opcode 0xaa 0 0 0
 
@@ -96,13 +96,9 @@ pub record EntryExample (m : Machine) (s : Step) : Type 0 where
   pub entered : answerTo m (filled 0) s ≡ 11
   pub back : ResumptionExample (stepped m (filled 0) s .stepped .machine) (stepped m (filled 0) s .memory) rsm
 
-abbrev pub EntryExamples : Type 0
-EntryExamples =
-    (e : Edition) → EntryExample (locked e) (Boundary 1 0x1000 None) × EntryExample (underSmac e) (Opcode (smintOpcode e) 0 0 0x1002)
-
 -- 02, request 3: an entry from EIP FFF0h at a boundary with current address 1000h. Current IP and next IP are 1000h twice for the two REP forms,
 -- 1000h and FFF0h for the other five interruptions, and FFF0h twice for a halted machine.
-pub record PointersExample (m : Machine) (i : Interruption) (current next : ℕ) : Type 0 where
+pub record BoundaryExample (m : Machine) (i : Interruption) (current next : ℕ) : Type 0 where
   pub entry : EntryExample m (Boundary 1 0x1000 i)
   pub pointers : let e = stepped m (filled 0) (Boundary 1 0x1000 i) in
       Pointers m e (stepped (e .stepped .machine) (e .memory) rsm) current next
@@ -110,17 +106,20 @@ pub record PointersExample (m : Machine) (i : Interruption) (current next : ℕ)
 abbrev pub byteOut : Transfer
 byteOut = record { port = 0x3f8; size = 1; value = 0x41 }
 
-abbrev pub PointersExamples : Type 0
-PointersExamples =
+abbrev pub BoundaryExamples : Type 0
+BoundaryExamples =
     (e : Edition)
-    → PointersExample (locked e) (RepInput 0x5000) 0x1000 0x1000
-    × PointersExample (locked e) (RepOutput byteOut 0x5000) 0x1000 0x1000
-    × PointersExample (locked e) None 0x1000 0xfff0
-    × PointersExample (locked e) Input 0x1000 0xfff0
-    × PointersExample (locked e) (Output byteOut) 0x1000 0xfff0
-    × PointersExample (locked e) (StringInput 0x5000) 0x1000 0xfff0
-    × PointersExample (locked e) (StringOutput byteOut 0x5000) 0x1000 0xfff0
-    × PointersExample (withHalted (locked e) true) None 0xfff0 0xfff0
+    → BoundaryExample (locked e) (RepInput 0x5000) 0x1000 0x1000
+    × BoundaryExample (locked e) (RepOutput byteOut 0x5000) 0x1000 0x1000
+    × BoundaryExample (locked e) None 0x1000 0xfff0
+    × BoundaryExample (locked e) Input 0x1000 0xfff0
+    × BoundaryExample (locked e) (Output byteOut) 0x1000 0xfff0
+    × BoundaryExample (locked e) (StringInput 0x5000) 0x1000 0xfff0
+    × BoundaryExample (locked e) (StringOutput byteOut 0x5000) 0x1000 0xfff0
+    × BoundaryExample (withHalted (locked e) true) None 0xfff0 0xfff0
+
+abbrev pub SmintExamples : Type 0
+SmintExamples = (e : Edition) → EntryExample (underSmac e) (Opcode (smintOpcode e) 0 0 0x1002)
 
 -- demand 1: in either edition a step that no refusal is called for, one for each of the five, and one that is refused
 abbrev pub RefusalExamples : Type 0
