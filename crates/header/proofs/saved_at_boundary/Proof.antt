@@ -1,9 +1,6 @@
 use borrow.Author.Needs.{needs}
 use Rattle.header.proofs.saved_at_boundary.Statement.{statement}
 use Rattle.header.proofs.saved_at_boundary.Tie as tie
-use Rattle.header.proofs.saved_at_boundary.Reads as reads
-use Rattle.fields.proofs.either.Reads as either-reads
-use Rattle.header.proofs.trap_of.Reads as trap-of-reads
 
 trap-of-requires : tie.Need-trap-of-requires
 trap-of-requires c κs = search needs
