@@ -1,0 +1,4 @@
+pub mod Lists
+pub mod Every
+pub mod Closing
+pub mod Computed
