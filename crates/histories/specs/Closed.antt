@@ -15,15 +15,15 @@ use Rattle.journal.specs.Answers.{counter}
 use Rattle.journal.specs.Cuts.{foundAfter}
 use Rattle.histories.specs.Histories.{Run, off, on, History, Promised}
 
--- a restart of area a, at any time
+-- a restart, at any time, begins a run at the ceiling of area a
 abbrev pub RestartGoesOn : List ℕ → Type 0
 RestartGoesOn a = (r : Run) (ns : List ℕ) → History a r ns → History a (on (counter (ceiling a))) ns
 
--- answered by s
+-- what is promised of area a settles s, the answer to a restart of it
 abbrev pub RestartKept : List ℕ → Started → Type 0
 RestartKept a s = (ns : List ℕ) → Promised a ns → s ≡ start.Ready (counter (ceiling a))
 
--- what the next number of counter c is answered by; a number comes last
+-- x answers the call for the next number of counter c on area a; a number that is handed out comes last
 abbrev pub NumberComesLast : List ℕ → List ℕ → Handed → Type 0
 NumberComesLast a ns (hand.Number n c) = History a (on c) (ns ++ (n ∷ []))
 NumberComesLast a ns hand.Refused = Unit
@@ -31,11 +31,11 @@ NumberComesLast a ns hand.Refused = Unit
 abbrev pub NextGoesOn : List ℕ → Counter → Handed → Type 0
 NextGoesOn a c x = (ns : List ℕ) → History a (on c) ns → NumberComesLast a ns x
 
--- a raise, whole or in part, leaves area b of area a
+-- a raise on area a, whole or in part, leaves area b, and the run goes on
 abbrev pub RaiseGoesOn : List ℕ → List ℕ → Type 0
 RaiseGoesOn a b = (c : Counter) (ns : List ℕ) → History a (on c) ns → History b (on c) ns
 
--- n stores of a raise to v are made, which is answered by x, and the restart that follows by s
+-- n stores of a raise to v are made, x answers it, and what is promised of area a settles s, the answer to the restart that follows
 abbrev pub RaiseKept : List ℕ → ℕ → ℕ → Raised → Started → Type 0
 RaiseKept a v n x s = (ns : List ℕ) → Promised a ns → s ≡ start.Ready (counter (foundAfter x (ceiling a) v n))
 
