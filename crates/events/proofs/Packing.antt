@@ -7,7 +7,7 @@ use Rattle.fields.proofs.Laws.{bit-small, bit-back}
 use Rattle.steps.specs.declared.Answer.{Answer}
 use Rattle.steps.specs.declared.Answer.the-variants.{Done, WrongSize, Malformed, WhileHalted, Invalid, Absent, Value, External, Nothing, Ignored, Latched, Entered, Resumed}
 use Rattle.steps.specs.declared.Step.{Step}
-use Rattle.steps.specs.declared.Step.the-variants.{Reset, Registers, Read, Write, PortRead, PortWrite, Opcode, Boundary, UnnamedBoundary, Halt, Wake}
+use Rattle.steps.specs.declared.Step.the-variants.{Reset, Registers, Read, Write, PortRead, PortWrite, Opcode, Boundary, MalformedBoundary, Halt, Wake}
 use Rattle.steps.specs.Answers.{numberOf}
 use Rattle.steps.specs.Steps.{kindOf}
 use Rattle.events.specs.Events.{noted, LogTakenApart}
@@ -37,7 +37,7 @@ kind-small (PortRead port) = omega arith
 kind-small (PortWrite port v) = omega arith
 kind-small (Opcode op modrm a next) = omega arith
 kind-small (Boundary smi current i) = omega arith
-kind-small UnnamedBoundary = omega arith
+kind-small MalformedBoundary = omega arith
 kind-small Halt = omega arith
 kind-small Wake = omega arith
 

@@ -8,7 +8,7 @@ use Rattle.region.specs.Region.{sizeOf}
 use Rattle.memory.specs.declared.Segment.{Segment}
 use Rattle.memory.specs.Memory.{Memories, there, reads, writes}
 use Rattle.steps.specs.declared.Step.{Step}
-use Rattle.steps.specs.declared.Step.the-variants.{Reset, Registers, Read, Write, PortRead, PortWrite, Opcode, Boundary, UnnamedBoundary, Halt, Wake}
+use Rattle.steps.specs.declared.Step.the-variants.{Reset, Registers, Read, Write, PortRead, PortWrite, Opcode, Boundary, MalformedBoundary, Halt, Wake}
 use Rattle.steps.specs.declared.Interruption.{Interruption}
 use Rattle.refusals.specs.Refusals.{firstRefusal}
 use Rattle.refusals.specs.declared.Verdict.{Verdict}
@@ -185,7 +185,7 @@ module _ (m : Machine) (x : Memories) (later : editionOf m ≡ Mii)
     same-performed (PortWrite port v) h = rw (same-write (m .config) later off port v (m .inside))
     same-performed (Opcode op modrm a next) h = rw (same-on op modrm a next h) (same-operand (operationOn m op modrm) a next)
     same-performed (Boundary smi current i) h = same-boundary (eqb smi 1) current i
-    same-performed UnnamedBoundary h = refl
+    same-performed MalformedBoundary h = refl
     same-performed Halt h = refl
     same-performed Wake h = refl
 
@@ -211,6 +211,6 @@ common-asked = (other, λ op modrm a next p q r t. rw (ne-eqb op 0x36 p, ne-eqb 
     other (PortWrite port v) n = refl
     other (Opcode op modrm a next) n = absurd (n op modrm a next refl)
     other (Boundary smi current i) n = refl
-    other UnnamedBoundary n = refl
+    other MalformedBoundary n = refl
     other Halt n = refl
     other Wake n = refl

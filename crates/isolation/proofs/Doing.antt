@@ -9,7 +9,7 @@ use Rattle.memory.specs.Memory.{Memories, Reached, allThere, there, reads, writ
 use Rattle.steps.specs.declared.Answer.{Answer}
 use Rattle.steps.specs.declared.Answer.the-variants.{WrongSize, Malformed, WhileHalted, Invalid, Absent}
 use Rattle.steps.specs.declared.Step.{Step}
-use Rattle.steps.specs.declared.Step.the-variants.{Reset, Registers, Read, Write, PortRead, PortWrite, Opcode, Boundary, UnnamedBoundary, Halt, Wake}
+use Rattle.steps.specs.declared.Step.the-variants.{Reset, Registers, Read, Write, PortRead, PortWrite, Opcode, Boundary, MalformedBoundary, Halt, Wake}
 use Rattle.steps.specs.declared.Interruption.{Interruption}
 use Rattle.steps.specs.Answers.{numberOf, refusal}
 use Rattle.refusals.specs.declared.Verdict.{Verdict}
@@ -108,7 +108,7 @@ module _ (m : Machine) (x : Memories) where
       (λ l. operated-does op modrm a next o refl (t .sizes) k) (λ l. Does.refuses Absent refl))
       (λ k. Does.refuses Invalid refl)
   performed-does (Boundary smi current i) t = boundary-does smi current i (t .sizes)
-  performed-does UnnamedBoundary t = unlike refl (t .formed)
+  performed-does MalformedBoundary t = unlike refl (t .formed)
   performed-does Halt t = Does.neither _ (plain refl refl refl)
   performed-does Wake t = Does.neither _ (plain refl refl refl)
 

@@ -6,7 +6,7 @@ use lib.Dec.{eqb}
 use Rattle.memory.specs.declared.Segment.{Segment}
 use Rattle.memory.specs.Memory.{Memories, there}
 use Rattle.steps.specs.declared.Step.{Step}
-use Rattle.steps.specs.declared.Step.the-variants.{Reset, Registers, Read, Write, PortRead, PortWrite, Opcode, Boundary, UnnamedBoundary, Halt, Wake}
+use Rattle.steps.specs.declared.Step.the-variants.{Reset, Registers, Read, Write, PortRead, PortWrite, Opcode, Boundary, MalformedBoundary, Halt, Wake}
 use Rattle.refusals.proofs.Laws.{by-verdict}
 use Rattle.config.specs.declared.Settings.{Settings}
 use Rattle.config.specs.Settings.{smiLock, headerFits, withSmhr, SameLocked}
@@ -92,7 +92,7 @@ module _ (m : Machine) (x : Memories) where
   performed-keeps (Opcode op modrm a next) = opcode-keeps m x _ op modrm a next
   performed-keeps (Boundary smi current i) =
       either (Keeps m (Boundary smi current i)) (taken m (eqb smi 1)) (λ h. same m x _ _ refl) (λ h. boundary-keeps m x _ (eqb smi 1))
-  performed-keeps UnnamedBoundary = same m x _ _ refl
+  performed-keeps MalformedBoundary = same m x _ _ refl
   performed-keeps Halt = same m x _ _ refl
   performed-keeps Wake = same m x _ _ refl
 

@@ -13,7 +13,7 @@ use Rattle.steps.specs.Answers.{refusal}
 use Rattle.steps.specs.declared.Interruption.{Interruption}
 use Rattle.steps.specs.declared.Interruption.the-variants.{None, Input, Output, StringInput, StringOutput, RepInput, RepOutput}
 use Rattle.steps.specs.declared.Step.{Step}
-use Rattle.steps.specs.declared.Step.the-variants.{Read, PortRead, Opcode, Boundary, UnnamedBoundary, Halt}
+use Rattle.steps.specs.declared.Step.the-variants.{Read, PortRead, Opcode, Boundary, MalformedBoundary, Halt}
 use Rattle.steps.specs.Widths.{TransferFits, InterruptionFits, StepFits}
 use Rattle.steps.specs.Steps.{isWidth, kindOf}
 use Rattle.refusals.specs.declared.Verdict.the-variants.{Allowed}
@@ -88,7 +88,7 @@ module _ (g : List ℕ) (long : length g ≡ 65536) where
 
   module _ (e : Edition) where
     called-for : (calledFor (locked e) x Halt ≡ 0)
-        × (calledFor (locked e) x UnnamedBoundary ≡ 2)
+        × (calledFor (locked e) x MalformedBoundary ≡ 2)
         × (calledFor (withHalted (locked e) true) x (PortRead 0x22) ≡ 3)
         × (calledFor (locked e) x (Opcode 0xaa 0 0 0) ≡ 4)
         × (calledFor (locked e) x (Read 4 0) ≡ 5)
@@ -107,7 +107,7 @@ module _ (g : List ℕ) (long : length g ≡ 65536) where
     unfolding malformedOn programWhileHalted
     smint-allowed = allowed false (smint e) refl refl
 
-    refuses : refusal (stepped (locked e) x UnnamedBoundary .stepped .answer) ≡ true
+    refuses : refusal (stepped (locked e) x MalformedBoundary .stepped .answer) ≡ true
     unfolding stepped firstRefusal malformedOn
     refuses = rw whole
 

@@ -16,7 +16,7 @@ use Rattle.steps.specs.declared.Answer.{Answer}
 use Rattle.steps.specs.declared.Answer.the-variants.{Done, WrongSize, Malformed, WhileHalted, Invalid, Absent, Value}
 use Rattle.steps.specs.declared.Interruption.{Interruption}
 use Rattle.steps.specs.declared.Step.{Step}
-use Rattle.steps.specs.declared.Step.the-variants.{Reset, Registers, Read, Write, PortRead, PortWrite, Opcode, Boundary, UnnamedBoundary, Halt, Wake}
+use Rattle.steps.specs.declared.Step.the-variants.{Reset, Registers, Read, Write, PortRead, PortWrite, Opcode, Boundary, MalformedBoundary, Halt, Wake}
 use Rattle.steps.specs.Answers.{numberOf}
 use Rattle.events.specs.Events.{Event, event}
 use Rattle.refusals.specs.Refusals.{wrongSizes, firstRefusal}
@@ -179,7 +179,7 @@ module _ (start : Machine) (from : Start start) (g h : List ℕ) (main : List �
       performed-one (PortWrite port v) n = port-write-one port v
       performed-one (Opcode op modrm a next) n = opcode-one op modrm a next
       performed-one (Boundary smi current i) n = boundary-one (eqb smi 1) current i
-      performed-one UnnamedBoundary n = stays Malformed refl
+      performed-one MalformedBoundary n = stays Malformed refl
       performed-one Halt n = quiet _ main refl (kept _ refl refl)
       performed-one Wake n = quiet _ main refl (kept _ refl refl)
 

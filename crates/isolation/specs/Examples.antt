@@ -6,7 +6,7 @@ use mathlib.Core.List.{List, [], _∷_}
 use lib.ListN.{length, replicate}
 use Rattle.memory.specs.Memory.{Memories, memories}
 use Rattle.steps.specs.declared.Step.{Step}
-use Rattle.steps.specs.declared.Step.the-variants.{Reset, Read, PortRead, Opcode, Boundary, UnnamedBoundary, Halt}
+use Rattle.steps.specs.declared.Step.the-variants.{Reset, Read, PortRead, Opcode, Boundary, MalformedBoundary, Halt}
 use Rattle.steps.specs.declared.Transfer.{Transfer}
 use Rattle.steps.specs.declared.Interruption.{Interruption}
 use Rattle.steps.specs.declared.Interruption.the-variants.{None, Input, Output, StringInput, StringOutput, RepInput, RepOutput}
@@ -127,11 +127,11 @@ RefusalExamples =
     (e : Edition)
     → (calledFor (locked e) (filled 0) Halt ≡ 0)
     × (calledFor (locked e) (memories [] []) Reset ≡ 1)
-    × (calledFor (locked e) (filled 0) UnnamedBoundary ≡ 2)
+    × (calledFor (locked e) (filled 0) MalformedBoundary ≡ 2)
     × (calledFor (machine resetRegisters resetSegments true false false (locked e .config)) (filled 0) (PortRead 0x22) ≡ 3)
     × (calledFor (locked e) (filled 0) (Opcode 0xaa 0 0 0) ≡ 4)
     × (calledFor (locked e) (filled 0) (Read 4 0) ≡ 5)
-    × (refusal (stepped (locked e) (filled 0) UnnamedBoundary .stepped .answer) ≡ true)
+    × (refusal (stepped (locked e) (filled 0) MalformedBoundary .stepped .answer) ≡ true)
 
 -- 02, request 1: outside the mode under the lock and SMAC, without main memory, RDSHR is refused for its operand, WRSHR is invalid before that,
 -- and SMINT is 38h and not 7Eh; the header begins 48 below SMHR, where the 486 edition has it 48 below the region's end; B0h is internal with

@@ -9,7 +9,7 @@ use Rattle.refusals.specs.declared.Verdict.the-variants.{Refused, Allowed}
 use Rattle.refusals.specs.Refusals.{firstRefusal}
 use Rattle.steps.specs.declared.Answer.the-variants.{Done, Malformed, Invalid, Absent}
 use Rattle.steps.specs.declared.Step.{Step}
-use Rattle.steps.specs.declared.Step.the-variants.{Reset, Registers, Read, Write, PortRead, PortWrite, Opcode, Boundary, UnnamedBoundary, Halt, Wake}
+use Rattle.steps.specs.declared.Step.the-variants.{Reset, Registers, Read, Write, PortRead, PortWrite, Opcode, Boundary, MalformedBoundary, Halt, Wake}
 use Rattle.config.specs.Settings.{windowOf, opcodesAllowed, smhr, withSmhr}
 use Rattle.config.specs.Ports.{portRead, portWrite}
 use Rattle.config.specs.declared.Accessed.{Accessed}
@@ -128,7 +128,7 @@ wakeStep m = gives (withHalted m false) Done
 
 -- ---- any step
 
--- one that no refusal of 1 to 3 stops; a boundary that names no interruption is never that
+-- one that no refusal of 1 to 3 stops; a malformed boundary is never that
 unfoldable pub performed : Machine → Memories → Step → Outcome
 performed m x Reset = ends (resetStep m) x
 performed m x (Registers eip eflags cr0 dr7 selector descriptor level writable) =
@@ -139,7 +139,7 @@ performed m x (PortRead port) = ends (portReadStep m port) x
 performed m x (PortWrite port v) = ends (portWriteStep m port v) x
 performed m x (Opcode op modrm a next) = opcodeStep m x op modrm a next
 performed m x (Boundary smi current i) = boundaryStep m x (eqb smi 1) current i
-performed m x UnnamedBoundary = refused m x Malformed
+performed m x MalformedBoundary = refused m x Malformed
 performed m x Halt = ends (haltStep m) x
 performed m x Wake = ends (wakeStep m) x
 

@@ -563,7 +563,7 @@ impl Machine {
                 let r = self.boundary(management, smi, current, interruption);
                 r
             }
-            Step::UnnamedBoundary => self.answers(Answer::Malformed),
+            Step::MalformedBoundary => self.answers(Answer::Malformed),
             Step::Halt => self.halt(),
             Step::Wake => self.wake(),
         }

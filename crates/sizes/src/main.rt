@@ -1,5 +1,6 @@
 // Plays one short trace on memories of several sizes: the edges of what a step takes, and those just beyond them.
-// The trace: a reset, a write of the byte ABh at 0, a read of the byte at 0, and a read of the byte at FFFFFh.
+// The trace: a reset, a write of the byte ABh at 0, a read of the byte at 0, and a read of the byte at FFFFFh; then a boundary with a port and no
+// output, a halt, the same boundary, and a read of the byte at 0.
 use config::Edition;
 use libc::STDOUT_FILENO;
 use machine::Machine;
@@ -11,7 +12,7 @@ fn show(main_size: usize, management_size: usize) {
     let g = fields::at_most(management_size, 65537);
     let mut out = [0u8; 130006];
     let size = player::replay(
-        b"\x02\0\x01\0\x0b\0\x04\0\x01\0\0\0\0\xab\0\0\0\x07\0\x03\0\x01\0\0\0\0\x07\0\x03\0\x01\xff\xff\x0f\0",
+        b"\x02\0\x01\0\x0b\0\x04\0\x01\0\0\0\0\xab\0\0\0\x07\0\x03\0\x01\0\0\0\0\x07\0\x03\0\x01\xff\xff\x0f\0\x13\0\x08\0\0\0\0\0\0\0\x01\0\0\0\0\0\0\0\0\0\0\x02\0\x09\0\x13\0\x08\0\0\0\0\0\0\0\x01\0\0\0\0\0\0\0\0\0\0\x07\0\x03\0\x01\0\0\0\0",
         Machine::initial(Edition::Cx486),
         &mut main[0..m],
         &mut management[0..g],

@@ -5,7 +5,7 @@ use Rattle.steps.specs.declared.Transfer.{Transfer}
 use Rattle.steps.specs.declared.Interruption.{Interruption}
 use Rattle.steps.specs.declared.Interruption.the-variants.{None, Input, Output, StringInput, StringOutput, RepInput, RepOutput}
 use Rattle.steps.specs.declared.Step.{Step}
-use Rattle.steps.specs.declared.Step.the-variants.{Reset, Registers, Read, Write, PortRead, PortWrite, Opcode, Boundary, UnnamedBoundary, Halt, Wake}
+use Rattle.steps.specs.declared.Step.the-variants.{Reset, Registers, Read, Write, PortRead, PortWrite, Opcode, Boundary, MalformedBoundary, Halt, Wake}
 
 pub record TransferFits (t : Transfer) : Type 0 where
   pub port : t .port < 2 ^ 16
@@ -33,6 +33,6 @@ StepFits (PortRead port) = port < 2 ^ 16
 StepFits (PortWrite port v) = (port < 2 ^ 16) × (v < 2 ^ 8)
 StepFits (Opcode op modrm a next) = (op < 2 ^ 8) × (modrm < 2 ^ 8) × (a < 2 ^ 32) × (next < 2 ^ 32)
 StepFits (Boundary smi current i) = (smi < 2 ^ 8) × (current < 2 ^ 32) × InterruptionFits i
-StepFits UnnamedBoundary = Unit {0}
+StepFits MalformedBoundary = Unit {0}
 StepFits Halt = Unit {0}
 StepFits Wake = Unit {0}

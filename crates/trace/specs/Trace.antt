@@ -3,15 +3,13 @@ use Prim.Native.Nat.{ℕ, _+_, _-_}
 use mathlib.Core.Path.{_≡_}
 use mathlib.Core.Bool.{Bool, cond, _||_}
 use mathlib.Core.List.{List, [], _∷_}
-use lib.ListN.{length, getD, take, drop}
+use lib.ListN.{length, take, drop}
 use lib.Dec.{leb, ltb, eqb}
 use Rattle.fields.specs.Fields.{fieldAt}
-use Rattle.steps.specs.declared.Transfer.{Transfer}
-use Rattle.steps.specs.declared.Interruption.{Interruption}
-use Rattle.steps.specs.declared.Interruption.the-variants.{None, Input, Output, StringInput, StringOutput, RepInput, RepOutput}
 use Rattle.steps.specs.declared.Step.{Step}
-use Rattle.steps.specs.declared.Step.the-variants.{Reset, Registers, Read, Write, PortRead, PortWrite, Opcode, Boundary, UnnamedBoundary, Halt, Wake}
+use Rattle.steps.specs.declared.Step.the-variants.{Reset, Registers, Read, Write, PortRead, PortWrite, Opcode, Halt, Wake}
 use Rattle.steps.specs.Steps.{kindOf}
+use Rattle.boundaries.specs.Boundaries.{bodyLength, boundaryOf}
 use Rattle.trace.specs.declared.Found.{Found}
 use Rattle.trace.specs.declared.Found.the-variants.{Record, End, Torn, Bad}
 
@@ -36,25 +34,6 @@ registersOf b =
     Registers (fieldAt b 0 4) (fieldAt b 4 4) (fieldAt b 8 4) (fieldAt b 12 4)
     (fieldAt b 16 2) (fieldAt b 18 8) (fieldAt b 26 1) (fieldAt b 27 1)
 
--- the seven interruptions in the order of their codes, from an output's fields and from ESI or EDI
-abbrev pub interruptions : Transfer → ℕ → List Interruption
-interruptions t i = None ∷ Input ∷ Output t ∷ StringInput i ∷ StringOutput t i ∷ RepInput i ∷ RepOutput t i ∷ []
-
--- the one of a code up to 6; boundaryOf asks for no other
-unfoldable pub interruptionOf : ℕ → Transfer → ℕ → Interruption
-interruptionOf code t i = getD (interruptions t i) code None
-
--- an output's fields in the body of a boundary
-abbrev pub transferOf : List ℕ → Transfer
-transferOf b = record { port = fieldAt b 6 2; size = fieldAt b 8 1; value = fieldAt b 9 4 }
-
--- Kind 8. Fields that its interruption doesn't use are ignored. A code above 6 names none: that boundary is a step of its own, which is
--- malformed.
-unfoldable pub boundaryOf : List ℕ → Step
-boundaryOf b =
-    cond (ltb 6 (fieldAt b 5 1)) UnnamedBoundary
-    (Boundary (fieldAt b 0 1) (fieldAt b 1 4) (interruptionOf (fieldAt b 5 1) (transferOf b) (fieldAt b 13 4)))
-
 -- a kind of record: its number, the length of its body, and the step that a body of that length says
 pub record Kind : Type 0 where
   pub number : ℕ
@@ -74,7 +53,7 @@ kinds =
     ∷ kind 5 2 (λ b. PortRead (fieldAt b 0 2))
     ∷ kind 6 3 (λ b. PortWrite (fieldAt b 0 2) (fieldAt b 2 1))
     ∷ kind 7 10 (λ b. Opcode (fieldAt b 0 1) (fieldAt b 1 1) (fieldAt b 2 4) (fieldAt b 6 4))
-    ∷ kind 8 17 boundaryOf
+    ∷ kind 8 bodyLength boundaryOf
     ∷ kind 9 0 (λ b. Halt)
     ∷ kind 10 0 (λ b. Wake)
     ∷ []

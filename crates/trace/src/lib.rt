@@ -1,9 +1,7 @@
 // The records of a trace: what stands at a place, and a reader that keeps the trace and its place.
-use steps::Interruption;
 use steps::Step;
-use steps::Transfer;
 ghost use mathlib.Core.Path.{_≡_};
-ghost use Rattle.trace.specs.Trace.{interruptionOf, boundaryOf, registersOf, recordOf, foundAt, KindsAgree};
+ghost use Rattle.trace.specs.Trace.{registersOf, recordOf, foundAt, KindsAgree};
 
 // What stands at a place. A record is its step and the place past it.
 pub enum Found {
@@ -11,41 +9,6 @@ pub enum Found {
     End,
     Torn,
     Bad,
-}
-
-// The interruption of a code up to 6.
-fn interruption_of(code: u8, output: Transfer, index: u32) -> Interruption
-    ensures { λ r. ⌜ r ≡ interruptionOf code output index ⌝ }
-{
-    match code {
-        0 => Interruption::None,
-        1 => Interruption::Input,
-        2 => Interruption::Output(output),
-        3 => Interruption::StringInput(index),
-        4 => Interruption::StringOutput(output, index),
-        5 => Interruption::RepInput(index),
-        6 => Interruption::RepOutput(output, index),
-        _ => Interruption::None,
-    }
-}
-
-fn boundary(body: &[u8]) -> Step
-    ensures { λ r. ⌜ r ≡ boundaryOf (now (body .entry)) ⌝ }
-{
-    let code = fields::byte(body, 5);
-    if 6 < code {
-        return Step::UnnamedBoundary;
-    }
-    let output = Transfer {
-        port: fields::half(body, 6),
-        size: fields::byte(body, 8),
-        value: fields::word(body, 9),
-    };
-    Step::Boundary {
-        smi: fields::byte(body, 0),
-        current: fields::word(body, 1),
-        interruption: interruption_of(code, output, fields::word(body, 13)),
-    }
 }
 
 fn registers(body: &[u8]) -> Step
@@ -143,7 +106,7 @@ fn decode(kind: u16, body: &[u8], next: usize) -> Found
         },
         8 => if body.len() == 17 {
             Found::Record {
-                step: boundary(body),
+                step: boundaries::boundary(body),
                 next,
             }
         } else {

@@ -6,7 +6,7 @@ use denote.Laws.{Is}
 use denote.Enum.Declared.{row}
 use Rattle.steps.specs.declared.Interruption.the-variants.{None, Input, Output, StringInput, StringOutput, RepInput, RepOutput}
 use Rattle.steps.specs.declared.Step.{Step}
-use Rattle.steps.specs.declared.Step.the-variants.{Reset, Registers, Read, Write, PortRead, PortWrite, Opcode, Boundary, UnnamedBoundary, Halt, Wake}
+use Rattle.steps.specs.declared.Step.the-variants.{Reset, Registers, Read, Write, PortRead, PortWrite, Opcode, Boundary, MalformedBoundary, Halt, Wake}
 use Rattle.steps.specs.Widths.{StepFits}
 use Rattle.steps.proofs.Step.{the-type}
 use Rattle.steps.proofs.widths.Statement.{statement}
@@ -27,7 +27,7 @@ step-fits (Boundary smi current (StringInput i)) vs h = omega arith
 step-fits (Boundary smi current (StringOutput t i)) vs h = omega arith
 step-fits (Boundary smi current (RepInput i)) vs h = omega arith
 step-fits (Boundary smi current (RepOutput t i)) vs h = omega arith
-step-fits UnnamedBoundary vs h = tt
+step-fits MalformedBoundary vs h = tt
 step-fits Halt vs h = tt
 step-fits Wake vs h = tt
 

@@ -4,14 +4,14 @@ use mathlib.Core.Bool.{Bool, true, false, cond}
 use mathlib.Core.List.{List, [], _∷_}
 use Prim.Native.Nat.{ℕ}
 use native.Mathlib.Omega.{arith}
-use lib.Dec.{eqb, ltb}
+use lib.Dec.{eqb}
 use lib.ListN.{length}
 use borrow.Author.Tests.{eqb-true}
-use Rattle.fields.specs.Fields.{fieldAt}
 use Rattle.steps.specs.declared.Step.{Step}
 use Rattle.steps.specs.Steps.{kindOf}
+use Rattle.boundaries.proofs.Unsaid.{by-cases}
 use Rattle.trace.specs.declared.Found.the-variants.{Record, Bad}
-use Rattle.trace.specs.Trace.{Kind, kinds, registersOf, boundaryOf, recordBy, recordOf}
+use Rattle.trace.specs.Trace.{Kind, kinds, registersOf, recordBy, recordOf}
 use Rattle.trace.proofs.laws.Statement.{statement}
 use Rattle.trace.proofs.laws.Tie as tie
 
@@ -19,17 +19,9 @@ abbrev Agree : List Kind → Type 0
 Agree [] = Unit
 Agree (k ∷ ks) = ((b : List ℕ) → kindOf (k .step b) ≡ k .number) × Agree ks
 
-boundary-kind : (b : List ℕ) → kindOf (boundaryOf b) ≡ 8
-unfolding boundaryOf
-boundary-kind b = go (ltb 6 (fieldAt b 5 1)) refl
-  where
-    go : (t : Bool) → ltb 6 (fieldAt b 5 1) ≡ t → kindOf (boundaryOf b) ≡ 8
-    go true e = rw e
-    go false e = rw e
-
 kinds-agree : Agree kinds
 unfolding registersOf
-kinds-agree = (λ b. refl, (λ b. refl, (λ b. refl, (λ b. refl, (λ b. refl, (λ b. refl, (λ b. refl, (boundary-kind, (λ b. refl, (λ b. refl, tt))))))))))
+kinds-agree = (λ b. refl, (λ b. refl, (λ b. refl, (λ b. refl, (λ b. refl, (λ b. refl, (λ b. refl, (λ b. by-cases (λ s. kindOf s ≡ 8) b refl refl, (λ b. refl, (λ b. refl, tt))))))))))
 
 module _ (number next past : ℕ) (b : List ℕ) (s : Step) where
   not-bad : Bad ≡ Record s past → kindOf s ≡ number

@@ -2,9 +2,9 @@ use native.Mathlib.Omega.{arith}
 use mathlib.Core.Path.{_≡_, sym}
 use Prim.Native.Nat.{ℕ, _+_, _≤_}
 use lib.ListN.{List·getD-eq-default}
-use Rattle.trace.specs.Trace.{interruptions, interruptionOf}
-use Rattle.trace.proofs.interruption_of.Statement.{statement}
-use Rattle.trace.proofs.interruption_of.Tie as tie
+use Rattle.boundaries.specs.Boundaries.{interruptions, interruptionOf}
+use Rattle.boundaries.proofs.interruption_of.Statement.{statement}
+use Rattle.boundaries.proofs.interruption_of.Tie as tie
 
 returns : tie.Need-returns
 unfolding interruptionOf
