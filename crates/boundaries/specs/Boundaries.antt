@@ -67,8 +67,9 @@ isString (RepOutput t i) = true
 unfoldable pub unusedZero : Interruption → Transfer → ℕ → Bool
 unusedZero x t i = (isOutput x || (eqb (t .port) 0 && eqb (t .size) 0 && eqb (t .value) 0)) && (isString x || eqb i 0)
 
--- What a body says. It is malformed if its code names none of the seven, or if a field that its interruption doesn't use is not zero; SMI and the
--- current address, which every boundary uses, may hold anything here. 01 has such fields ignored, and 02 replaces that.
+-- What a body says. It is malformed if its code names none of the seven, or if a field that its interruption doesn't use is not zero; 01 has such
+-- fields ignored, and 02 replaces that. The current address may be any. SMI and an output's size are judged of the step (steps/specs/Steps,
+-- `malformed`).
 unfoldable pub boundaryOf : List ℕ → Step
 boundaryOf b =
     let x = interruptionOf (codeIn b) (transferIn b) (indexIn b) in
@@ -84,18 +85,20 @@ abbrev pub bodyWith : ℕ → ℕ → ℕ → ℕ → ℕ → List ℕ
 bodyWith code port size value index =
     1 ∷ 0x00 ∷ 0x10 ∷ 0 ∷ 0 ∷ code ∷ port ∷ 0 ∷ size ∷ value ∷ 0 ∷ 0 ∷ 0 ∷ index ∷ 0 ∷ 0 ∷ 0 ∷ []
 
-abbrev pub Says : List ℕ → Interruption → Type 0
-Says b x = boundaryOf b ≡ Boundary 1 0x1000 x
+-- what such a body says, and that no other says it, by what is promised of the two
+pub record Only (b : List ℕ) (x : Interruption) : Type 0 where
+  pub says : boundaryOf b ≡ Boundary 1 0x1000 x
+  pub other : (c : List ℕ) → NothingUnsaid b c → length c ≡ bodyLength → boundaryOf c ≡ Boundary 1 0x1000 x → b ≡ c
 
--- what such a body says of each interruption, whatever stands in the fields that it uses
+-- each interruption, whatever stands in the fields that it uses
 abbrev pub RecordExamples : Type 0
 RecordExamples =
     (port size value index : ℕ)
     → let t = transfer port size value in
-    Says (bodyWith 0 0 0 0 0) None
-    × Says (bodyWith 1 0 0 0 0) Input
-    × Says (bodyWith 2 port size value 0) (Output t)
-    × Says (bodyWith 3 0 0 0 index) (StringInput index)
-    × Says (bodyWith 4 port size value index) (StringOutput t index)
-    × Says (bodyWith 5 0 0 0 index) (RepInput index)
-    × Says (bodyWith 6 port size value index) (RepOutput t index)
+    Only (bodyWith 0 0 0 0 0) None
+    × Only (bodyWith 1 0 0 0 0) Input
+    × Only (bodyWith 2 port size value 0) (Output t)
+    × Only (bodyWith 3 0 0 0 index) (StringInput index)
+    × Only (bodyWith 4 port size value index) (StringOutput t index)
+    × Only (bodyWith 5 0 0 0 index) (RepInput index)
+    × Only (bodyWith 6 port size value index) (RepOutput t index)

@@ -61,16 +61,18 @@ pub fn boundary(body: &[u8]) -> Step
     let index = fields::word(body, 13);
     let interruption = interruption_of(code, output, index);
     if unused_are_zero(interruption, output, index) {
-        return Step::Boundary {
+        Step::Boundary {
             smi: fields::byte(body, 0),
             current,
             interruption,
-        };
+        }
+    } else {
+        Step::MalformedBoundary
     }
-    Step::MalformedBoundary
 }
 
-// No code of the model: it holds the gate to what the rule is for. That slices hold bytes is told where they are lent, so both are.
+// No code of the model: it holds the gate to what the rule is for. The calls are there since the prover tells that a slice holds bytes where the
+// slice is lent.
 fn laws(a: &[u8], b: &[u8])
     ensures { λ r. ⌜ NothingUnsaid (now (a .entry)) (now (b .entry)) ⌝ }
 {
@@ -78,7 +80,7 @@ fn laws(a: &[u8], b: &[u8])
     boundary(b);
 }
 
-// Nor is this.
+// No code of the model either.
 fn examples()
     ensures { λ r. ⌜ RecordExamples ⌝ }
 {}

@@ -3,61 +3,42 @@ use borrow.Author.Tests.{lt-leb, le-leb}
 use borrow.Author.Needs.{needs}
 use Rattle.boundaries.proofs.boundary.Statement.{statement}
 use Rattle.boundaries.proofs.boundary.Tie as tie
-use Rattle.boundaries.proofs.boundary.Reads as reads
-use Rattle.boundaries.proofs.boundary.Lts as lts
-use Rattle.boundaries.proofs.interruption_of.Reads as interruption-of-reads
-use Rattle.boundaries.proofs.unused_are_zero.Reads as unused-are-zero-reads
-use Rattle.fields.proofs.byte.Reads as byte-reads
-use Rattle.fields.proofs.half.Reads as half-reads
-use Rattle.fields.proofs.word.Reads as word-reads
 
--- src/lib.rt:58:9
 byte-requires : tie.Need-byte-requires
 byte-requires c κs = search needs
 
--- src/lib.rt:60:9
 returns : tie.Need-returns
 unfolding boundaryOf
 returns c = simp (← (c .before .byte .ensures), lt-leb _ _ (c .if1 .taken))
 
--- src/lib.rt:62:9
 word-requires : tie.Need-word-requires
 word-requires c κs = search needs
 
--- src/lib.rt:64:15
 half-requires : tie.Need-half-requires
 half-requires c κs = search needs
 
--- src/lib.rt:65:15
 byte-requires-2 : tie.Need-byte-requires-2
 byte-requires-2 c κs = search needs
 
--- src/lib.rt:66:16
 word-requires-2 : tie.Need-word-requires-2
 word-requires-2 c κs = search needs
 
--- src/lib.rt:68:9
 word-requires-3 : tie.Need-word-requires-3
 word-requires-3 c κs = search needs
 
--- src/lib.rt:69:9
 interruption-of-requires : tie.Need-interruption-of-requires
 interruption-of-requires c κs = search needs
 
--- src/lib.rt:70:8
 unused-are-zero-requires : tie.Need-unused-are-zero-requires
 unused-are-zero-requires c κs = search needs
 
--- src/lib.rt:72:18
 byte-requires-3 : tie.Need-byte-requires-3
 byte-requires-3 c κs = search needs
 
--- src/lib.rt:71:9
 returns-2 : tie.Need-returns-2
 unfolding boundaryOf
 returns-2 c = simp (← (c .before .before .before .before .before .before .before .before .before .before .byte .ensures), ← (c .before .before .before .before .before .before .before .half .ensures), ← (c .before .before .before .before .before .before .byte2 .ensures), ← (c .before .before .before .before .before .word2 .ensures), ← (c .before .before .before .before .word3 .ensures), ← (c .before .before .before .interruption-of .ensures), le-leb _ _ (c .before .before .before .before .before .before .before .before .before .if1 .left), ← (c .before .before .unused-are-zero .ensures), (c .before .if2 .taken), (c .byte3 .ensures), (c .before .before .before .before .before .before .before .before .word .ensures))
 
--- src/lib.rt:55:1
 returns-3 : tie.Need-returns-3
 unfolding boundaryOf
 returns-3 c = simp (← (c .before .before .before .before .before .before .before .before .before .byte .ensures), ← (c .before .before .before .before .before .before .half .ensures), ← (c .before .before .before .before .before .byte2 .ensures), ← (c .before .before .before .before .word2 .ensures), ← (c .before .before .before .word3 .ensures), ← (c .before .before .interruption-of .ensures), le-leb _ _ (c .before .before .before .before .before .before .before .before .if1 .left), ← (c .before .unused-are-zero .ensures), (c .if2 .left))

@@ -2,89 +2,67 @@ use Rattle.boundaries.specs.Boundaries.{unusedZero}
 use borrow.Author.Needs.{needs}
 use Rattle.boundaries.proofs.unused_are_zero.Statement.{statement}
 use Rattle.boundaries.proofs.unused_are_zero.Tie as tie
-use Rattle.boundaries.proofs.unused_are_zero.Reads as reads
-use Rattle.boundaries.proofs.unused_are_zero.Lts as lts
-use Rattle.boundaries.proofs.all_zero.Reads as all-zero-reads
 
--- src/lib.rt:44:31
 enum-told : tie.Need-enum-told
 enum-told c = search needs
 
--- src/lib.rt:44:31
 all-zero-requires : tie.Need-all-zero-requires
 all-zero-requires c κs = search needs
 
--- src/lib.rt:45:32
 enum-told-2 : tie.Need-enum-told-2
 enum-told-2 c = search needs
 
--- src/lib.rt:45:32
 all-zero-requires-2 : tie.Need-all-zero-requires-2
 all-zero-requires-2 c κs = search needs
 
--- src/lib.rt:46:36
 enum-told-3 : tie.Need-enum-told-3
 enum-told-3 c = search needs
 
--- src/lib.rt:46:36
 all-zero-requires-3 : tie.Need-all-zero-requires-3
 all-zero-requires-3 c κs = search needs
 
--- src/lib.rt:47:41
 enum-told-4 : tie.Need-enum-told-4
 enum-told-4 c = search needs
 
--- src/lib.rt:47:41
 all-zero-requires-4 : tie.Need-all-zero-requires-4
 all-zero-requires-4 c κs = search needs
 
--- src/lib.rt:48:45
 enum-told-5 : tie.Need-enum-told-5
 enum-told-5 c = search needs
 
--- src/lib.rt:49:38
 enum-told-6 : tie.Need-enum-told-6
 enum-told-6 c = search needs
 
--- src/lib.rt:49:38
 all-zero-requires-5 : tie.Need-all-zero-requires-5
 all-zero-requires-5 c κs = search needs
 
--- src/lib.rt:50:42
 enum-told-7 : tie.Need-enum-told-7
 enum-told-7 c = search needs
 
--- src/lib.rt:40:1
 returns : tie.Need-returns
 unfolding unusedZero
 returns c = rw (c .before .enum-told .given .1) (c .all-zero .ensures)
 
--- src/lib.rt:40:1
 returns-2 : tie.Need-returns-2
 unfolding unusedZero
 returns-2 c = rw (c .before .enum-told2 .given .1) (c .all-zero2 .ensures)
 
--- src/lib.rt:40:1
 returns-3 : tie.Need-returns-3
 unfolding unusedZero
 returns-3 c = rw (c .before .enum-told3 .given .1) (c .all-zero3 .ensures)
 
--- src/lib.rt:40:1
 returns-4 : tie.Need-returns-4
 unfolding unusedZero
 returns-4 c = rw (c .before .enum-told4 .given .1) (c .all-zero4 .ensures)
 
--- src/lib.rt:40:1
 returns-5 : tie.Need-returns-5
 unfolding unusedZero
 returns-5 c = rw (c .enum-told5 .given .1)
 
--- src/lib.rt:40:1
 returns-6 : tie.Need-returns-6
 unfolding unusedZero
 returns-6 c = rw (c .before .enum-told6 .given .1) (c .all-zero5 .ensures)
 
--- src/lib.rt:40:1
 returns-7 : tie.Need-returns-7
 unfolding unusedZero
 returns-7 c = rw (c .enum-told7 .given .1)
