@@ -14,8 +14,8 @@ use Rattle.steps.specs.declared.Step.the-variants.{Boundary, MalformedBoundary}
 
 -- The fields of a body: SMI 1 byte, current address 4, interruption 1, port 2, size 1, data 4, index 4. Each is given by its first byte's place
 -- and its number of bytes.
-abbrev pub bodyLength : ℕ
-bodyLength = 17
+abbrev pub boundarySize : ℕ
+boundarySize = 17
 
 abbrev pub smiIn : List ℕ → ℕ
 smiIn b = fieldAt b 0 1
@@ -78,7 +78,7 @@ boundaryOf b =
 -- Nothing in a record stays unsaid: two bodies that say the same boundary have the same bytes. So no junk hides in a record that isn't malformed.
 abbrev pub NothingUnsaid : List ℕ → List ℕ → Type 0
 NothingUnsaid a b =
-    length a ≡ bodyLength → length b ≡ bodyLength → boundaryOf a ≡ boundaryOf b → (boundaryOf a ≡ MalformedBoundary → ⊥) → a ≡ b
+    length a ≡ boundarySize → length b ≡ boundarySize → boundaryOf a ≡ boundaryOf b → (boundaryOf a ≡ MalformedBoundary → ⊥) → a ≡ b
 
 -- a body with SMI asserted at 1000h, for fields below 256
 abbrev pub bodyWith : ℕ → ℕ → ℕ → ℕ → ℕ → List ℕ
@@ -88,7 +88,7 @@ bodyWith code port size value index =
 -- what such a body says, and that no other says it, by what is promised of the two
 pub record Only (b : List ℕ) (x : Interruption) : Type 0 where
   pub says : boundaryOf b ≡ Boundary 1 0x1000 x
-  pub other : (c : List ℕ) → NothingUnsaid b c → length c ≡ bodyLength → boundaryOf c ≡ Boundary 1 0x1000 x → b ≡ c
+  pub other : (c : List ℕ) → NothingUnsaid b c → length c ≡ boundarySize → boundaryOf c ≡ Boundary 1 0x1000 x → b ≡ c
 
 -- each interruption, whatever stands in the fields that it uses
 abbrev pub RecordExamples : Type 0

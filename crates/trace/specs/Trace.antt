@@ -9,7 +9,7 @@ use Rattle.fields.specs.Fields.{fieldAt}
 use Rattle.steps.specs.declared.Step.{Step}
 use Rattle.steps.specs.declared.Step.the-variants.{Reset, Registers, Read, Write, PortRead, PortWrite, Opcode, Halt, Wake}
 use Rattle.steps.specs.Steps.{kindOf}
-use Rattle.boundaries.specs.Boundaries.{bodyLength, boundaryOf}
+use Rattle.boundaries.specs.Boundaries.{boundarySize, boundaryOf}
 use Rattle.trace.specs.declared.Found.{Found}
 use Rattle.trace.specs.declared.Found.the-variants.{Record, End, Torn, Bad}
 
@@ -53,7 +53,7 @@ kinds =
     ∷ kind 5 2 (λ b. PortRead (fieldAt b 0 2))
     ∷ kind 6 3 (λ b. PortWrite (fieldAt b 0 2) (fieldAt b 2 1))
     ∷ kind 7 10 (λ b. Opcode (fieldAt b 0 1) (fieldAt b 1 1) (fieldAt b 2 4) (fieldAt b 6 4))
-    ∷ kind 8 bodyLength boundaryOf
+    ∷ kind 8 boundarySize boundaryOf
     ∷ kind 9 0 (λ b. Halt)
     ∷ kind 10 0 (λ b. Wake)
     ∷ []

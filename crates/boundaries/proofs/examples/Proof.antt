@@ -6,7 +6,7 @@ use lib.ListN.{length}
 use Rattle.fields.specs.Fields.{numberBy}
 use Rattle.steps.specs.declared.Interruption.{Interruption}
 use Rattle.steps.specs.declared.Step.the-variants.{Boundary, MalformedBoundary}
-use Rattle.boundaries.specs.Boundaries.{bodyLength, interruptionOf, unusedZero, boundaryOf, Only}
+use Rattle.boundaries.specs.Boundaries.{boundarySize, interruptionOf, unusedZero, boundaryOf, Only}
 use Rattle.boundaries.proofs.examples.Statement.{statement}
 use Rattle.boundaries.proofs.examples.Tie as tie
 
@@ -14,7 +14,7 @@ use Rattle.boundaries.proofs.examples.Tie as tie
 low : (n : ℕ) → n + 0 ≡ n
 low n = omega arith
 
-only : (b : List ℕ) (x : Interruption) → length b ≡ bodyLength → boundaryOf b ≡ Boundary 1 0x1000 x → Only b x
+only : (b : List ℕ) (x : Interruption) → length b ≡ boundarySize → boundaryOf b ≡ Boundary 1 0x1000 x → Only b x
 only b x l e = record { says = e; other = λ c law k f. law l k (e ∙ sym f) (λ m. unlike (sym e ∙ m)) }
   where
     unlike : Boundary 1 0x1000 x ≡ MalformedBoundary → ⊥
