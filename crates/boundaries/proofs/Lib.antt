@@ -1,1 +1,1 @@
-pub mod Unsaid
+pub mod Canonical

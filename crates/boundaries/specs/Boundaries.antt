@@ -2,18 +2,19 @@
 use Prim.Native.Nat.{ℕ}
 use mathlib.Core.Path.{_≡_}
 use mathlib.Core.Bool.{Bool, true, false, cond, _&&_, _||_}
-use mathlib.Core.List.{List, [], _∷_}
+use mathlib.Core.List.{List, [], _∷_, _++_}
 use lib.ListN.{length, getD}
 use lib.Dec.{leb, eqb}
-use Rattle.fields.specs.Fields.{fieldAt}
+use Rattle.fields.specs.Fields.{fieldAt, bytesOf}
 use Rattle.steps.specs.declared.Transfer.{Transfer}
 use Rattle.steps.specs.declared.Interruption.{Interruption}
 use Rattle.steps.specs.declared.Interruption.the-variants.{None, Input, Output, StringInput, StringOutput, RepInput, RepOutput}
 use Rattle.steps.specs.declared.Step.{Step}
 use Rattle.steps.specs.declared.Step.the-variants.{Boundary, MalformedBoundary}
+use Rattle.steps.specs.Widths.{StepFits}
 
--- The fields of a body: SMI 1 byte, current address 4, interruption 1, port 2, size 1, data 4, index 4. Each is given by its first byte's place
--- and its number of bytes.
+-- The fields of a body: SMI 1 byte, current address 4, interruption 1, port 2, size 1, data 4, index 4; 17 bytes in all. Each is given by its first
+-- byte's place and its number of bytes.
 abbrev pub boundarySize : ℕ
 boundarySize = 17
 
@@ -39,7 +40,7 @@ indexIn b = fieldAt b 13 4
 abbrev pub interruptions : Transfer → ℕ → List Interruption
 interruptions t i = None ∷ Input ∷ Output t ∷ StringInput i ∷ StringOutput t i ∷ RepInput i ∷ RepOutput t i ∷ []
 
--- the one of a code up to 6; boundaryOf asks for no other
+-- the one of a code up to 6; for other codes it doesn't count
 unfoldable pub interruptionOf : ℕ → Transfer → ℕ → Interruption
 interruptionOf code t i = getD (interruptions t i) code None
 
@@ -65,7 +66,7 @@ isString (RepOutput t i) = true
 
 -- 02, request 5: port, size and data are zero without an output, and the index without a string form
 unfoldable pub unusedZero : Interruption → Transfer → ℕ → Bool
-unusedZero x t i = (isOutput x || (eqb (t .port) 0 && eqb (t .size) 0 && eqb (t .value) 0)) && (isString x || eqb i 0)
+unusedZero x t index = (isOutput x || (eqb (t .port) 0 && eqb (t .size) 0 && eqb (t .value) 0)) && (isString x || eqb index 0)
 
 -- What a body says. It is malformed if its code names none of the seven, or if a field that its interruption doesn't use is not zero; 01 has such
 -- fields ignored, and 02 replaces that. The current address may be any. SMI and an output's size are judged of the step (steps/specs/Steps,
@@ -75,30 +76,25 @@ boundaryOf b =
     let x = interruptionOf (codeIn b) (transferIn b) (indexIn b) in
     cond (leb (codeIn b) 6 && unusedZero x (transferIn b) (indexIn b)) (Boundary (smiIn b) (currentIn b) x) MalformedBoundary
 
--- Nothing in a record stays unsaid: two bodies that say the same boundary have the same bytes. So no junk hides in a record that isn't malformed.
-abbrev pub NothingUnsaid : List ℕ → List ℕ → Type 0
-NothingUnsaid a b =
-    length a ≡ boundarySize → length b ≡ boundarySize → boundaryOf a ≡ boundaryOf b → (boundaryOf a ≡ MalformedBoundary → ⊥) → a ≡ b
+-- The other way, the body of a boundary: its seven fields one after the other, those that its interruption doesn't use zero.
+abbrev pub bodyWith : ℕ → ℕ → ℕ → Transfer → ℕ → List ℕ
+bodyWith smi current code t index =
+    bytesOf 1 smi ++ (bytesOf 4 current ++ (bytesOf 1 code
+    ++ (bytesOf 2 (t .port) ++ (bytesOf 1 (t .size) ++ (bytesOf 4 (t .value) ++ bytesOf 4 index)))))
 
--- a body with SMI asserted at 1000h, for fields below 256
-abbrev pub bodyWith : ℕ → ℕ → ℕ → ℕ → ℕ → List ℕ
-bodyWith code port size value index =
-    1 ∷ 0x00 ∷ 0x10 ∷ 0 ∷ 0 ∷ code ∷ port ∷ 0 ∷ size ∷ value ∷ 0 ∷ 0 ∷ 0 ∷ index ∷ 0 ∷ 0 ∷ 0 ∷ []
+unfoldable pub bodyOf : ℕ → ℕ → Interruption → List ℕ
+bodyOf smi current None = bodyWith smi current 0 (transfer 0 0 0) 0
+bodyOf smi current Input = bodyWith smi current 1 (transfer 0 0 0) 0
+bodyOf smi current (Output t) = bodyWith smi current 2 t 0
+bodyOf smi current (StringInput i) = bodyWith smi current 3 (transfer 0 0 0) i
+bodyOf smi current (StringOutput t i) = bodyWith smi current 4 t i
+bodyOf smi current (RepInput i) = bodyWith smi current 5 (transfer 0 0 0) i
+bodyOf smi current (RepOutput t i) = bodyWith smi current 6 t i
 
--- what such a body says, and that no other says it, by what is promised of the two
-pub record Only (b : List ℕ) (x : Interruption) : Type 0 where
-  pub says : boundaryOf b ≡ Boundary 1 0x1000 x
-  pub other : (c : List ℕ) → NothingUnsaid b c → length c ≡ boundarySize → boundaryOf c ≡ Boundary 1 0x1000 x → b ≡ c
+-- Every boundary has a record: no boundary, of numbers that have their widths, is refused for how it is recorded.
+abbrev pub Recordable : Type 0
+Recordable = (smi current : ℕ) (x : Interruption) → StepFits (Boundary smi current x) → boundaryOf (bodyOf smi current x) ≡ Boundary smi current x
 
--- each interruption, whatever stands in the fields that it uses
-abbrev pub RecordExamples : Type 0
-RecordExamples =
-    (port size value index : ℕ)
-    → let t = transfer port size value in
-    Only (bodyWith 0 0 0 0 0) None
-    × Only (bodyWith 1 0 0 0 0) Input
-    × Only (bodyWith 2 port size value 0) (Output t)
-    × Only (bodyWith 3 0 0 0 index) (StringInput index)
-    × Only (bodyWith 4 port size value index) (StringOutput t index)
-    × Only (bodyWith 5 0 0 0 index) (RepInput index)
-    × Only (bodyWith 6 port size value index) (RepOutput t index)
+-- It has no other: a body that says a boundary is that boundary's, byte for byte, and so holds no junk.
+abbrev pub Canonical : List ℕ → Type 0
+Canonical b = (smi current : ℕ) (x : Interruption) → length b ≡ boundarySize → boundaryOf b ≡ Boundary smi current x → b ≡ bodyOf smi current x

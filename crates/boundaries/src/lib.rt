@@ -1,11 +1,11 @@
-// What the record of a boundary says. A record with anything in a field that its interruption doesn't use is malformed.
+// What the record of a boundary says.
 use steps::Interruption;
 use steps::Step;
 use steps::Transfer;
 ghost use mathlib.Core.Path.{_≡_};
 ghost use mathlib.Core.Bool.{_&&_};
 ghost use lib.Dec.{eqb};
-ghost use Rattle.boundaries.specs.Boundaries.{interruptionOf, unusedZero, boundaryOf, NothingUnsaid, RecordExamples};
+ghost use Rattle.boundaries.specs.Boundaries.{interruptionOf, unusedZero, boundaryOf, Recordable, Canonical};
 
 // The interruption of a code up to 6.
 fn interruption_of(code: u8, output: Transfer, index: u32) -> Interruption
@@ -71,16 +71,9 @@ pub fn boundary(body: &[u8]) -> Step
     }
 }
 
-// No code of the model: it holds the gate to what the rule is for. The calls are there since the prover tells that a slice holds bytes where the
-// slice is lent.
-fn laws(a: &[u8], b: &[u8])
-    ensures { λ r. ⌜ NothingUnsaid (now (a .entry)) (now (b .entry)) ⌝ }
+// No code of the model: it holds the gate to what the rule is for, both ways. A slice is known to hold bytes where it is lent to a call.
+fn laws(body: &[u8])
+    ensures { λ r. ⌜ Recordable × Canonical (now (body .entry)) ⌝ }
 {
-    boundary(a);
-    boundary(b);
+    boundary(body);
 }
-
-// No code of the model either.
-fn examples()
-    ensures { λ r. ⌜ RecordExamples ⌝ }
-{}

@@ -9,7 +9,7 @@ use lib.ListN.{length}
 use borrow.Author.Tests.{eqb-true}
 use Rattle.steps.specs.declared.Step.{Step}
 use Rattle.steps.specs.Steps.{kindOf}
-use Rattle.boundaries.proofs.Unsaid.{by-cases}
+use Rattle.boundaries.proofs.Canonical.{by-cases}
 use Rattle.trace.specs.declared.Found.the-variants.{Record, Bad}
 use Rattle.trace.specs.Trace.{Kind, kinds, registersOf, recordBy, recordOf}
 use Rattle.trace.proofs.laws.Statement.{statement}
