@@ -76,7 +76,7 @@ boundaryOf b =
     let x = interruptionOf (codeIn b) (transferIn b) (indexIn b) in
     cond (leb (codeIn b) 6 && unusedZero x (transferIn b) (indexIn b)) (Boundary (smiIn b) (currentIn b) x) MalformedBoundary
 
--- The other way, the body of a boundary: its seven fields one after the other, those that its interruption doesn't use zero.
+-- The other way, the body of a boundary: its seven fields one after the other. Those that its interruption doesn't use are zero.
 abbrev pub bodyWith : ℕ → ℕ → ℕ → Transfer → ℕ → List ℕ
 bodyWith smi current code t index =
     bytesOf 1 smi ++ (bytesOf 4 current ++ (bytesOf 1 code
@@ -91,7 +91,7 @@ bodyOf smi current (StringOutput t i) = bodyWith smi current 4 t i
 bodyOf smi current (RepInput i) = bodyWith smi current 5 (transfer 0 0 0) i
 bodyOf smi current (RepOutput t i) = bodyWith smi current 6 t i
 
--- Every boundary has a record: no boundary, of numbers that have their widths, is refused for how it is recorded.
+-- Every boundary whose numbers have their widths has a record, which says it.
 abbrev pub Recordable : Type 0
 Recordable = (smi current : ℕ) (x : Interruption) → StepFits (Boundary smi current x) → boundaryOf (bodyOf smi current x) ≡ Boundary smi current x
 
