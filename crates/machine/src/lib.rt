@@ -86,7 +86,7 @@ impl Machine {
     }
 
     // The same machine, put together field by field: the gaps between the fields are then not copied from step to step.
-    fn anew(self) -> Machine
+    pub fn anew(self) -> Machine
         ensures { λ r. ⌜ r ≡ self ⌝ }
     {
         let r = self.registers;

@@ -10,13 +10,209 @@ ghost use Rattle.player.specs.Player.{scriptOf, playing, Plays};
 
 const RECORD_LIMIT: usize = 10000;
 
+const GROUP_LEVELS: usize = 8;
+
 pub struct Played {
     pub machine: Machine,
     pub count: usize,
     pub reason: Reason,
 }
 
-// Plays a trace from its start. What is noted of each record goes to the list, as many as there were records.
+// What a stretch of records ends at: a group, or a reason to stop.
+enum Stop {
+    Group {
+        rounds: u16,
+        start: usize,
+        next: usize,
+    },
+    End,
+    Limit,
+    Torn,
+    Bad,
+}
+
+// What a stretch of records leaves.
+struct Ran {
+    machine: Machine,
+    count: usize,
+    stop: Stop,
+}
+
+// The place at which a turn begins in a list, and the rounds that are not done by then, its own among them.
+struct Turn {
+    place: usize,
+    left: u16,
+}
+
+// Runs the records from a place of a list on, up to a group, the list's end or the limit. What is noted of each record goes to the list
+// of events. The machine is put together anew, so that the loop doesn't copy the gaps between its fields.
+fn records(
+    list: &[u8],
+    from: usize,
+    start: Machine,
+    done: usize,
+    main: &mut [u8],
+    management: &mut [u8],
+    events: &mut [u64; 10000],
+) -> Ran
+    requires { ⌜ done ≤ recordLimit ⌝ }
+    ensures { λ r. ⌜ Stretches (now (list .entry)) from (state start (memories (now (main .entry)) (now (management .entry))) done (now (events .entry)))
+        (state (r .machine) (memories (now (main .exit)) (now (management .exit))) (r .count) (now (events .exit))) (r .stop) ⌝ }
+{
+    let mut machine = start;
+    let mut place: usize = from;
+    let mut count: usize = done;
+    let stop = loop {
+        if list.len() <= place {
+            break Stop::End;
+        }
+        if RECORD_LIMIT <= count {
+            break Stop::Limit;
+        }
+        match trace::record_at(list, place) {
+            Found::Record { step, next } => {
+                let inside = machine.inside;
+                let stepped = machine.step(main, management, step);
+                let answer = stepped.answer;
+                events[count] = events::note(step, inside, answer);
+                place = next;
+                count += 1;
+                machine = stepped.machine;
+            }
+            Found::Group { count: rounds, start, next } => {
+                break Stop::Group {
+                    rounds,
+                    start,
+                    next,
+                };
+            }
+            Found::End => {
+                break Stop::End;
+            }
+            Found::Torn => {
+                break Stop::Torn;
+            }
+            Found::Bad => {
+                break Stop::Bad;
+            }
+        }
+    };
+    Ran {
+        machine: machine.anew(),
+        count,
+        stop,
+    }
+}
+
+// Where a turn begins: past the end of the list the next round does.
+fn turn(size: usize, place: usize, left: u16) -> Turn
+    requires { ⌜ 0 < left ⌝ }
+    ensures { λ r. ⌜ r ≡ turnAt size place left ⌝ }
+{
+    if size <= place {
+        return Turn {
+            place: 0,
+            left: left - 1,
+        };
+    }
+    Turn { place, left }
+}
+
+// Whether a group may be run: an outermost one is read through first, and the groups in it have been by then.
+fn is_admitted(list: &[u8], depth: usize) -> bool
+    ensures { λ r. ⌜ r ≡ admitted depth (now (list .entry)) ⌝ }
+{
+    if depth < GROUP_LEVELS {
+        return true;
+    }
+    scripts::is_sound(list, depth)
+}
+
+// Runs a list of records as often as its rounds say, or up to the limit. Each turn of the loop runs a record, or a group, which has at
+// least one, or leaves: so the limit bounds the work, however many records the groups have in all.
+fn walk(
+    list: &[u8],
+    depth: usize,
+    rounds: u16,
+    start: Machine,
+    done: usize,
+    main: &mut [u8],
+    management: &mut [u8],
+    events: &mut [u64; 10000],
+) -> Played
+    requires { ⌜ Fit depth rounds (now list) ⌝ }
+    requires { ⌜ done ≤ recordLimit ⌝ }
+    ensures { λ r. ⌜ Goes (state start (memories (now (main .entry)) (now (management .entry))) done (now (events .entry)))
+        (times rounds (within depth (now (list .entry))))
+        (state (r .machine) (memories (now (main .exit)) (now (management .exit))) (r .count) (now (events .exit))) (r .reason) ⌝ }
+{
+    let mut machine = start;
+    let mut count: usize = done;
+    let mut place: usize = 0;
+    let mut left = rounds;
+    let reason = loop {
+        if (list.len() <= place) & (left <= 1) {
+            break Reason::End;
+        }
+        let turn = turn(list.len(), place, left);
+        left = turn.left;
+        let ran = records(
+            list,
+            turn.place,
+            machine,
+            count,
+            main,
+            management,
+            events,
+        );
+        machine = ran.machine;
+        count = ran.count;
+        match ran.stop {
+            Stop::Group { rounds, start, next } => {
+                if !is_admitted(&list[start..next], depth - 1) {
+                    break Reason::Bad;
+                }
+                let inner = walk(
+                    &list[start..next],
+                    depth - 1,
+                    rounds,
+                    machine,
+                    count,
+                    main,
+                    management,
+                    events,
+                );
+                let why = inner.reason;
+                machine = inner.machine;
+                count = inner.count;
+                let Reason::End = why else {
+                    break Reason::Limit;
+                };
+                place = next;
+            }
+            Stop::End => {
+                place = list.len();
+            }
+            Stop::Limit => {
+                break Reason::Limit;
+            }
+            Stop::Torn => {
+                break Reason::Torn;
+            }
+            Stop::Bad => {
+                break Reason::Bad;
+            }
+        }
+    };
+    Played {
+        machine,
+        count,
+        reason,
+    }
+}
+
+// Plays a trace from its start, as the list of a level above the groups. What is noted of each record goes to the list, as many as there
+// were records.
 pub fn play(
     trace: &[u8],
     start: Machine,
@@ -28,42 +224,7 @@ pub fn play(
         (playing start (memories (now (main .entry)) (now (management .entry))) (now (trace .entry)))
         r (memories (now (main .exit)) (now (management .exit))) (now (events .entry)) (now (events .exit)) ⌝ }
 {
-    let mut machine = start;
-    let mut place: usize = 0;
-    let mut count: usize = 0;
-    let reason = loop {
-        if trace.len() <= place {
-            break Reason::End;
-        }
-        if RECORD_LIMIT <= count {
-            break Reason::Limit;
-        }
-        match trace::record_at(trace, place) {
-            Found::Record { step, next } => {
-                let inside = machine.inside;
-                let stepped = machine.step(main, management, step);
-                let answer = stepped.answer;
-                events[count] = events::note(step, inside, answer);
-                place = next;
-                count += 1;
-                machine = stepped.machine;
-            }
-            Found::End => {
-                break Reason::End;
-            }
-            Found::Torn => {
-                break Reason::Torn;
-            }
-            Found::Bad => {
-                break Reason::Bad;
-            }
-        }
-    };
-    Played {
-        machine,
-        count,
-        reason,
-    }
+    walk(trace, GROUP_LEVELS + 1, 1, start, 0, main, management, events)
 }
 
 // Plays a trace and writes its text. The result is the text's size.
