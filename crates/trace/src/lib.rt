@@ -256,21 +256,26 @@ fn read_record(trace: &[u8], at: usize) -> Found
     }
 }
 
-// What stands at a place, passed over: the step isn't made.
+fn skip(found: Found) -> Passed
+    ensures { λ r. ⌜ r ≡ passed found ⌝ }
+{
+    match found {
+        Found::Record { step, next } => Passed::Record { next },
+        Found::Group { count, start, next } => Passed::Group { start, next },
+        Found::End => Passed::End,
+        Found::Torn => Passed::Torn,
+        Found::Bad => Passed::Bad,
+    }
+}
+
+// What stands at a place, passed over: a record's step isn't made.
 pub fn pass(trace: &[u8], at: usize) -> Passed
     ensures { λ r. ⌜ r ≡ passed (foundAt (now (trace .entry)) at) ⌝ }
 {
     match frame_at(trace, at) {
         Frame::Whole { kind, start, next } => {
             if kind == GROUP {
-                match group(trace, start, next) {
-                    Found::Group { count, start, next } => {
-                        return Passed::Group { start, next };
-                    }
-                    _ => {
-                        return Passed::Bad;
-                    }
-                }
+                return skip(group(trace, start, next));
             }
             if is_kind(kind, next - start) {
                 return Passed::Record { next };

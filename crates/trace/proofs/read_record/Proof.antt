@@ -1,77 +1,75 @@
-use Rattle.trace.proofs.Finding.{found-end, found-short, found-over, found-small, found-whole}
+use Rattle.trace.proofs.Finding.{frame-past, found-by, found-group, found-record}
+use Rattle.trace.specs.Trace.{framed}
+use mathlib.Core.Path.{sym, _∙_}
+use native.Mathlib.Omega.{arith}
 use borrow.Author.Needs.{needs}
 use Rattle.trace.proofs.read_record.Statement.{statement}
 use Rattle.trace.proofs.read_record.Tie as tie
 
+frame-at-requires : tie.Need-frame-at-requires
+frame-at-requires c κs = search needs
+
+enum-known-kind : tie.Need-enum-known-kind
+enum-known-kind c = search needs
+
+group-requires : tie.Need-group-requires
+group-requires c κs = search needs
+
 returns : tie.Need-returns
-returns c = found-end _ _ (c .if1 .taken)
-
-sub-left : tie.Need-sub-left
-sub-left c = search needs
-
-returns-2 : tie.Need-returns-2
-returns-2 c = found-short _ _ (c .before .if1 .left) (search needs)
-
-half-requires : tie.Need-half-requires
-half-requires c κs = search needs
-
-cast-length : tie.Need-cast-length
-cast-length c = search needs
-
-returns-3 : tie.Need-returns-3
-returns-3 c = found-over _ _ _ (c .before .half .ensures) (search needs) (search needs)
-
-returns-4 : tie.Need-returns-4
-returns-4 c = found-small _ _ _ (c .before .before .half .ensures) (search needs) (c .if4 .taken)
-
-add-half : tie.Need-add-half
-add-half c = search needs
-
-half-requires-2 : tie.Need-half-requires-2
-half-requires-2 c κs = search needs
-
-add-start : tie.Need-add-start
-add-start c = search needs
-
-add-next : tie.Need-add-next
-add-next c = search needs
-
-add-next-2 : tie.Need-add-next-2
-add-next-2 c = search needs
+returns c = c .group .ensures ∙ found-group _ _ _ _ _ (sym (c .before .before .before .kind .given .1) ∙ c .before .before .before .before .before .frame-at .ensures) (c .before .if1 .taken)
 
 sub-decode : tie.Need-sub-decode
-sub-decode c = search needs
+sub-decode c = omega (arith, frame-past _ _ _ (sym (c .before .before .kind .given .1) ∙ c .before .before .before .before .frame-at .ensures))
 
 part-decode-start : tie.Need-part-decode-start
-part-decode-start c = search needs
+part-decode-start c = omega (arith, frame-past _ _ _ (sym (c .before .before .kind .given .1) ∙ c .before .before .before .before .frame-at .ensures))
 
 part-decode-end : tie.Need-part-decode-end
-part-decode-end c = search needs
+part-decode-end c = omega (arith, frame-past _ _ _ (sym (c .before .before .kind .given .1) ∙ c .before .before .before .before .frame-at .ensures))
 
 decode-requires : tie.Need-decode-requires
 decode-requires c κs = search needs
 
+enum-told : tie.Need-enum-told
+enum-told c = search needs
+
+enum-told-2 : tie.Need-enum-told-2
+enum-told-2 c = search needs
+
+enum-told-3 : tie.Need-enum-told-3
+enum-told-3 c = search needs
+
+returns-2 : tie.Need-returns-2
+returns-2 c = c .decode .ensures ∙ found-record _ _ _ _ _ (sym (c .before .before .before .before .kind .given .1) ∙ c .before .before .before .before .before .before .frame-at .ensures) (c .before .before .if1 .left)
+
+returns-3 : tie.Need-returns-3
+unfolding framed
+returns-3 c = found-by _ _ _ (sym (c .enum-told .given .1) ∙ c .before .before .frame-at .ensures)
+
+returns-4 : tie.Need-returns-4
+unfolding framed
+returns-4 c = found-by _ _ _ (sym (c .enum-told2 .given .1) ∙ c .before .before .frame-at .ensures)
+
 returns-5 : tie.Need-returns-5
-returns-5 c = found-whole _ _ _ (c .before .before .before .before .before .half .ensures) (search needs) (c .before .before .before .if4 .left) _ (c .before .before .half2 .ensures) _ (c .decode .ensures)
+unfolding framed
+returns-5 c = found-by _ _ _ (sym (c .enum-told3 .given .1) ∙ c .before .before .frame-at .ensures)
 
 pub read-record-spec : {M : Type 1} → statement M
 read-record-spec =
     tie.close
     (tie.spec
+    frame-at-requires
+    enum-known-kind
+    group-requires
     returns
-    sub-left
-    returns-2
-    half-requires
-    cast-length
-    returns-3
-    returns-4
-    add-half
-    half-requires-2
-    add-start
-    add-next
-    add-next-2
     sub-decode
     part-decode-start
     part-decode-end
     decode-requires
+    enum-told
+    enum-told-2
+    enum-told-3
+    returns-2
+    returns-3
+    returns-4
     returns-5)
