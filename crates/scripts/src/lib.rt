@@ -1,7 +1,8 @@
 // The steps that a list of records holds, groups written out: here, whether they can all be read.
 use trace::Passed;
 ghost use mathlib.Core.Path.{_≡_};
-ghost use Rattle.scripts.specs.Scripts.{isEnd, within};
+ghost use Rattle.scripts.specs.Scripts.{isEnd, within, Unbounded};
+ghost use Rattle.scripts.specs.Former.{UpToGroups, Groupless, SameAsFormerly, oneWake};
 
 // Whether a group's list is read to its end, where as many levels as depth are left, its own among them.
 pub fn is_sound(list: &[u8], depth: usize) -> bool
@@ -34,3 +35,11 @@ pub fn is_sound(list: &[u8], depth: usize) -> bool
         }
     }
 }
+
+// No code of the model: it holds the gate to what the reading of a trace is, and was.
+fn laws()
+    ensures unbounded { λ r. ⌜ Unbounded ⌝ }
+    ensures groups { λ r. ⌜ UpToGroups ⌝ }
+    ensures formerly { λ r. ⌜ SameAsFormerly ⌝ }
+    ensures example { λ r. ⌜ Groupless oneWake ⌝ }
+{}

@@ -1,0 +1,4 @@
+pub mod Reading
+pub mod Limits
+pub mod Formerly
+pub mod Checking
