@@ -1,2 +1,5 @@
-pub mod Playing
+pub mod States
+pub mod Stretching
+pub mod Going
+pub mod Walking
 pub mod Replaying

@@ -1,7 +1,7 @@
 -- The text of what the list holds after a play is the text of the run's answers. Assumes nothing.
 use mathlib.Core.Path.{_≡_, sym, ap, _∙_}
 use mathlib.Core.List.{List, map}
-use Prim.Native.Nat.{ℕ, zero, suc, _<_, _≤_}
+use Prim.Native.Nat.{ℕ, _<_, _≤_}
 use native.Mathlib.Nat.{min-eq-left}
 use native.Mathlib.Omega.{arith}
 use borrow.Author.Tests.{le-leb, lt-leb}
@@ -13,27 +13,14 @@ use Rattle.config.specs.declared.Edition.{Edition}
 use Rattle.machine.specs.declared.Machine.{Machine}
 use Rattle.machine.specs.Machines.{resetMachine}
 use Rattle.runs.proofs.Turns.{one-event-each}
-use Rattle.trace.specs.declared.Found.{Found}
-use Rattle.trace.specs.declared.Found.the-variants.{Record, End, Torn, Bad}
-use Rattle.trace.specs.Trace.{foundAt}
+use Rattle.scripts.specs.Scripts.{recordLimit, whole, scriptOf}
+use Rattle.scripts.proofs.Limits.{limited-within}
 use Rattle.lines.specs.Lines.{longText}
 use Rattle.lines.specs.Stores.{textFor, Printed}
 use Rattle.lines.proofs.Storing.{lines-noted}
 use Rattle.player.specs.declared.Played.{Played}
 use Rattle.player.specs.Output.{replayText, zeroMemories, outputOf}
-use Rattle.player.specs.Player.{Script, scriptBy, scriptFrom, scriptOf, recordLimit, playing, Plays}
-
--- a script has no more steps than the limit
-by-within : (n : ℕ) (f : Found) (rest : ℕ → Script) → ((next : ℕ) → length (rest next .steps) ≤ n) → length (scriptBy f rest .steps) ≤ suc n
-by-within n (Record s next) rest h = omega (arith, h next)
-by-within n End rest h = omega arith
-by-within n Torn rest h = omega arith
-by-within n Bad rest h = omega arith
-
-script-within : (n : ℕ) (l : List ℕ) (at : ℕ) → length (scriptFrom n l at .steps) ≤ n
-unfolding scriptFrom
-script-within zero l at = omega arith
-script-within (suc n) l at = by-within n (foundAt l at) (scriptFrom n l) (script-within n l)
+use Rattle.player.specs.Player.{playing, Plays}
 
 -- the text that the code writes, by what playing left in the list
 pub writes-text : (l : List ℕ) (m : Machine) (x : Memories) {x′ : Memories} {p : Played} {size : ℕ} {events₀ events out₀ out : List ℕ}
@@ -42,7 +29,7 @@ pub writes-text : (l : List ℕ) (m : Machine) (x : Memories) {x′ : Memories} 
 writes-text l m x {p = p} {events₀ = events₀} {events = events} i w t =
     let es = playing m x l .events in
     let e = w .leaves in
-    let h : p .count ≤ recordLimit = omega (arith, e .count-is, script-within recordLimit l 0) in
+    let h : p .count ≤ recordLimit = omega (arith, e .count-is, limited-within recordLimit (whole l)) in
     let k : p .count ≡ length (map noted es) = e .count-is ∙ sym (length-map es noted ∙ one-event-each m x (scriptOf l .steps)) in
     let stored : take (p .count) events ≡ map noted es =
     ap (take (p .count)) (e .events-are) ∙ stored-front events₀ (map noted es) (p .count) k (omega arith) in

@@ -10,7 +10,8 @@ use Rattle.machine.specs.declared.Machine.{Machine}
 use Rattle.machine.specs.Machines.{resetMachine}
 use Rattle.runs.specs.Runs.{answersOf}
 use Rattle.lines.specs.Lines.{textOf, longText}
-use Rattle.player.specs.Player.{scriptOf, playing}
+use Rattle.scripts.specs.Scripts.{scriptOf}
+use Rattle.player.specs.Player.{playing}
 
 -- the text of a replay
 abbrev pub replayText : Machine → Memories → List ℕ → List ℕ

@@ -3,10 +3,13 @@ use lines::Reason;
 use machine::Machine;
 use trace::Found;
 ghost use mathlib.Core.Path.{_≡_};
+ghost use Prim.Native.Nat.{_<_, _≤_};
 ghost use Rattle.memory.specs.Memory.{memories};
 ghost use Rattle.lines.specs.Stores.{Printed};
 ghost use Rattle.player.specs.Output.{replayText, outputOf};
-ghost use Rattle.player.specs.Player.{scriptOf, playing, Plays};
+ghost use Rattle.scripts.specs.Scripts.{recordLimit, within, scriptOf};
+ghost use Rattle.player.specs.Player.{playing, Plays};
+ghost use Rattle.player.specs.Walks.{state, Stretches, Goes, times, turnAt, admitted, Fit};
 
 const RECORD_LIMIT: usize = 10000;
 
@@ -105,7 +108,7 @@ fn records(
 }
 
 // Where a turn begins: past the end of the list the next round does.
-fn turn(size: usize, place: usize, left: u16) -> Turn
+fn turn_at(size: usize, place: usize, left: u16) -> Turn
     requires { ⌜ 0 < left ⌝ }
     ensures { λ r. ⌜ r ≡ turnAt size place left ⌝ }
 {
@@ -154,7 +157,7 @@ fn walk(
         if (list.len() <= place) & (left <= 1) {
             break Reason::End;
         }
-        let turn = turn(list.len(), place, left);
+        let turn = turn_at(list.len(), place, left);
         left = turn.left;
         let ran = records(
             list,
@@ -165,9 +168,10 @@ fn walk(
             management,
             events,
         );
+        let stop = ran.stop;
         machine = ran.machine;
         count = ran.count;
-        match ran.stop {
+        match stop {
             Stop::Group { rounds, start, next } => {
                 if !is_admitted(&list[start..next], depth - 1) {
                     break Reason::Bad;

@@ -86,10 +86,10 @@ end-is why.Torn e = absurd (false-true e)
 end-is why.Bad e = absurd (false-true e)
 
 -- a list that is not empty and is read to its end holds a step
-abbrev Holding : (List ℕ → Script) → Type 0
+abbrev pub Holding : (List ℕ → Script) → Type 0
 Holding inner = (l : List ℕ) → 0 < length l → isEnd (inner l .reason) ≡ true → 0 < length (inner l .steps)
 
-repeated-some : (n : ℕ) (ss : List Step) → 0 < n → 0 < length ss → 0 < length (repeated n ss)
+pub repeated-some : (n : ℕ) (ss : List Step) → 0 < n → 0 < length ss → 0 < length (repeated n ss)
 unfolding repeated
 repeated-some zero ss h k = absurd (lt-irrefl 0 h)
 repeated-some (suc n) ss h k = simp length-append (omega arith)
@@ -99,7 +99,7 @@ grouped-some : (b : Bool) (ss : List Step) (r : Script) → (b ≡ true → 0 < 
 grouped-some true ss r f e = simp length-append (omega (arith, f refl))
 grouped-some false ss r f e = absurd (false-true e)
 
-part-some : (l : List ℕ) (start next : ℕ) → start < next → next ≤ length l → 0 < length (part l start next)
+pub part-some : (l : List ℕ) (start next : ℕ) → start < next → next ≤ length l → 0 < length (part l start next)
 part-some l start next h k = simp (length-take, length-drop) (omega arith)
 
 module _ (inner : List ℕ → Script) (holds : Holding inner) (l : List ℕ) where
@@ -118,7 +118,7 @@ module _ (inner : List ℕ → Script) (holds : Holding inner) (l : List ℕ) wh
   rest-some at h =
       rw (rest-found inner l at (foundAt l at) refl) (some-by at (foundAt l at) (found-within l at) h (rest inner l))
 
-within-holds : (depth : ℕ) → Holding (within depth)
+pub within-holds : (depth : ℕ) → Holding (within depth)
 unfolding within
 within-holds zero l h e = absurd (false-true e)
 within-holds (suc d) l h e = rest-some (within d) (within-holds d) l 0 h e
