@@ -7,7 +7,8 @@ use Rattle.config.specs.declared.Edition.{Edition}
 use Rattle.machine.specs.Machines.{resetMachine}
 use Rattle.lines.specs.declared.Reason.{Reason}
 use Rattle.lines.specs.declared.Reason.the-variants.{End, Limit, Torn, Bad}
-use Rattle.player.specs.Player.{scriptOf, playing, Leaves}
+use Rattle.scripts.specs.Scripts.{scriptOf}
+use Rattle.player.specs.Player.{playing, Leaves}
 
 abbrev pub reasonNumber : Reason → ℕ
 reasonNumber End = 0

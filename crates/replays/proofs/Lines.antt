@@ -9,10 +9,10 @@ use lib.Seq.{take-append-seam}
 use Rattle.fields.specs.Fields.{numberBy}
 use Rattle.steps.specs.declared.Answer.{Answer}
 use Rattle.steps.specs.declared.Step.{Step}
-use Rattle.steps.specs.declared.Step.the-variants.{Wake}
+use Rattle.steps.specs.declared.Step.the-variants.{Reset, Wake}
 use Rattle.steps.specs.Steps.{kindOf}
 use Rattle.steps.specs.Answers.{numberOf, valueOf}
-use Rattle.trace.specs.Trace.{foundAt, recordOf, recordBy}
+use Rattle.trace.specs.Trace.{recordOf, recordBy, groupOf, frameAt, framed, foundAt}
 use Rattle.lines.specs.declared.Reason.{Reason}
 use Rattle.lines.specs.Lines.{lineOf, linesOf, wordOf, textOf}
 use Rattle.config.specs.declared.Edition.the-variants.{Mii}
@@ -20,8 +20,8 @@ use Rattle.isolation.specs.Isolation.{throughEntry}
 use Rattle.isolation.proofs.Isolation.{same-answers}
 use Rattle.isolation.proofs.Tightness.{no-reset-asked}
 use Rattle.isolation.proofs.Examples.{isolation-examples}
-use Rattle.player.specs.Player.{scriptFrom, scriptOf}
-use Rattle.replays.specs.Replays.{Begins, SameLines, oneWake, LinesExample}
+use Rattle.scripts.specs.Scripts.{repeated, readFrom, within, limited, scriptOf}
+use Rattle.replays.specs.Replays.{Begins, SameLines, wakeTwice, LinesExample}
 
 -- what is printed after the first entry
 after : List Answer → List ℕ
@@ -50,16 +50,17 @@ same-lines m main g h trace from equal none =
 
 -- ---- the example
 
-one-wake : scriptOf oneWake .steps ≡ Wake ∷ []
-unfolding scriptFrom foundAt recordOf recordBy numberBy
-one-wake = refl
+wake-twice : scriptOf wakeTwice .steps ≡ Wake ∷ Wake ∷ []
+unfolding repeated readFrom within limited foundAt frameAt framed groupOf recordOf recordBy numberBy
+wake-twice = refl
 
 pub lines-example : LinesExample
 lines-example =
     let e = isolation-examples Mii in
+    let no-wake : Wake ≡ Reset → ⊥ = λ w. let k = ap kindOf w in omega arith in
     record {
       start = e .start;
       equal = e .equal;
-      some = rw one-wake;
-      none = rw one-wake (no-reset-asked .1 Wake [] (λ w. let k = ap kindOf w in omega arith) (no-reset-asked .0));
+      some = rw wake-twice;
+      none = rw wake-twice (no-reset-asked .1 Wake (Wake ∷ []) no-wake (no-reset-asked .1 Wake [] no-wake (no-reset-asked .0)));
     }

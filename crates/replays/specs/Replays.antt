@@ -10,7 +10,8 @@ use Rattle.memory.specs.Memory.{Memories, memories}
 use Rattle.machine.specs.declared.Machine.{Machine}
 use Rattle.runs.specs.Runs.{answersOf}
 use Rattle.lines.specs.Lines.{linesOf}
-use Rattle.player.specs.Player.{scriptOf, playing}
+use Rattle.scripts.specs.Scripts.{scriptOf}
+use Rattle.player.specs.Player.{playing}
 use Rattle.player.specs.Output.{replayText}
 use Rattle.isolation.specs.Isolation.{Start, NoReset, throughEntry}
 use Rattle.config.specs.declared.Edition.the-variants.{Mii}
@@ -33,12 +34,12 @@ SameLines =
     × Begins (replayText m x trace) (linesThroughEntry m x trace)
     × Begins (replayText m y trace) (linesThroughEntry m y trace)
 
--- an example of what is asked: a trace of one record, a wake, and two management memories that differ
-abbrev pub oneWake : List ℕ
-oneWake = 2 ∷ 0 ∷ 10 ∷ 0 ∷ []
+-- an example of what is asked: a trace of one group, which has a wake twice, and two management memories that differ
+abbrev pub wakeTwice : List ℕ
+wakeTwice = 8 ∷ 0 ∷ 16 ∷ 0 ∷ 2 ∷ 0 ∷ 2 ∷ 0 ∷ 10 ∷ 0 ∷ []
 
 pub record LinesExample : Type 0 where
   pub start : Start (locked Mii)
   pub equal : length (filled 0 .management) ≡ length (filled 1 .management)
-  pub some : length (scriptOf oneWake .steps) ≡ 1
-  pub none : NoReset (scriptOf oneWake .steps)
+  pub some : length (scriptOf wakeTwice .steps) ≡ 2
+  pub none : NoReset (scriptOf wakeTwice .steps)
