@@ -9,7 +9,7 @@ ghost use Rattle.lines.specs.Stores.{Printed};
 ghost use Rattle.player.specs.Output.{replayText, outputOf};
 ghost use Rattle.scripts.specs.Scripts.{recordLimit, within, scriptOf};
 ghost use Rattle.player.specs.Player.{playing, Plays};
-ghost use Rattle.player.specs.Walks.{state, Stretches, Goes, times, turnAt, admitted, Fit};
+ghost use Rattle.player.specs.Walks.{state, Stretches, Goes, times, admitted, Fit};
 
 const RECORD_LIMIT: usize = 10000;
 
@@ -28,49 +28,56 @@ enum Stop {
         start: usize,
         next: usize,
     },
-    End,
-    Limit,
-    Torn,
-    Bad,
+    Leave {
+        reason: Reason,
+    },
 }
 
-// What a stretch of records leaves.
+// What a stretch of records leaves; left are the rounds of the list that are not done, the present one among them.
 struct Ran {
     machine: Machine,
     count: usize,
+    left: u16,
     stop: Stop,
 }
 
-// The place at which a turn begins in a list, and the rounds that are not done by then, its own among them.
-struct Turn {
-    place: usize,
-    left: u16,
-}
-
-// Runs the records from a place of a list on, up to a group, the list's end or the limit. What is noted of each record goes to the list
-// of events. The machine is put together anew, so that the loop doesn't copy the gaps between its fields.
+// Runs the records from a place of a list on, for as many rounds as are not done, up to a group, the end or the limit. The next round begins
+// in the turn of the loop that runs its first record, so that each turn runs one or leaves. What is noted of each record goes to the list of
+// events. The machine is put together anew, so that the loop doesn't copy the gaps between its fields.
 fn records(
     list: &[u8],
     from: usize,
+    rounds: u16,
     start: Machine,
     done: usize,
     main: &mut [u8],
     management: &mut [u8],
     events: &mut [u64; 10000],
 ) -> Ran
+    requires { ⌜ 0 < rounds ⌝ }
     requires { ⌜ done ≤ recordLimit ⌝ }
-    ensures { λ r. ⌜ Stretches (now (list .entry)) from (state start (memories (now (main .entry)) (now (management .entry))) done (now (events .entry)))
-        (state (r .machine) (memories (now (main .exit)) (now (management .exit))) (r .count) (now (events .exit))) (r .stop) ⌝ }
+    ensures { λ r. ⌜ Stretches (now (list .entry)) from rounds
+        (state start (memories (now (main .entry)) (now (management .entry))) done (now (events .entry)))
+        (state (r .machine) (memories (now (main .exit)) (now (management .exit))) (r .count) (now (events .exit))) (r .left) (r .stop) ⌝ }
 {
     let mut machine = start;
     let mut place: usize = from;
+    let mut left = rounds;
     let mut count: usize = done;
     let stop = loop {
         if list.len() <= place {
-            break Stop::End;
+            if left <= 1 {
+                break Stop::Leave {
+                    reason: Reason::End,
+                };
+            }
+            left -= 1;
+            place = 0;
         }
         if RECORD_LIMIT <= count {
-            break Stop::Limit;
+            break Stop::Leave {
+                reason: Reason::Limit,
+            };
         }
         match trace::record_at(list, place) {
             Found::Record { step, next } => {
@@ -82,7 +89,11 @@ fn records(
                 count += 1;
                 machine = stepped.machine;
             }
-            Found::Group { count: rounds, start, next } => {
+            Found::Group {
+                count: rounds,
+                start,
+                next,
+            } => {
                 break Stop::Group {
                     rounds,
                     start,
@@ -90,35 +101,28 @@ fn records(
                 };
             }
             Found::End => {
-                break Stop::End;
+                break Stop::Leave {
+                    reason: Reason::End,
+                };
             }
             Found::Torn => {
-                break Stop::Torn;
+                break Stop::Leave {
+                    reason: Reason::Torn,
+                };
             }
             Found::Bad => {
-                break Stop::Bad;
+                break Stop::Leave {
+                    reason: Reason::Bad,
+                };
             }
         }
     };
     Ran {
         machine: machine.anew(),
         count,
+        left,
         stop,
     }
-}
-
-// Where a turn begins: past the end of the list the next round does.
-fn turn_at(size: usize, place: usize, left: u16) -> Turn
-    requires { ⌜ 0 < left ⌝ }
-    ensures { λ r. ⌜ r ≡ turnAt size place left ⌝ }
-{
-    if size <= place {
-        return Turn {
-            place: 0,
-            left: left - 1,
-        };
-    }
-    Turn { place, left }
 }
 
 // Whether a group may be run: an outermost one is read through first, and the groups in it have been by then.
@@ -131,8 +135,8 @@ fn is_admitted(list: &[u8], depth: usize) -> bool
     scripts::is_sound(list, depth)
 }
 
-// Runs a list of records as often as its rounds say, or up to the limit. Each turn of the loop runs a record, or a group, which has at
-// least one, or leaves: so the limit bounds the work, however many records the groups have in all.
+// Runs a list of records as often as its rounds say, or up to the limit. Each turn of the loop runs a sound group, which has at least one
+// record, or leaves: so the limit bounds the work, however many records the groups have in all.
 fn walk(
     list: &[u8],
     depth: usize,
@@ -154,25 +158,17 @@ fn walk(
     let mut place: usize = 0;
     let mut left = rounds;
     let reason = loop {
-        if (list.len() <= place) & (left <= 1) {
-            break Reason::End;
-        }
-        let turn = turn_at(list.len(), place, left);
-        left = turn.left;
-        let ran = records(
-            list,
-            turn.place,
-            machine,
-            count,
-            main,
-            management,
-            events,
-        );
+        let ran = records(list, place, left, machine, count, main, management, events);
         let stop = ran.stop;
         machine = ran.machine;
         count = ran.count;
+        left = ran.left;
         match stop {
-            Stop::Group { rounds, start, next } => {
+            Stop::Group {
+                rounds,
+                start,
+                next,
+            } => {
                 if !is_admitted(&list[start..next], depth - 1) {
                     break Reason::Bad;
                 }
@@ -194,17 +190,8 @@ fn walk(
                 };
                 place = next;
             }
-            Stop::End => {
-                place = list.len();
-            }
-            Stop::Limit => {
-                break Reason::Limit;
-            }
-            Stop::Torn => {
-                break Reason::Torn;
-            }
-            Stop::Bad => {
-                break Reason::Bad;
+            Stop::Leave { reason } => {
+                break reason;
             }
         }
     };
@@ -228,7 +215,16 @@ pub fn play(
         (playing start (memories (now (main .entry)) (now (management .entry))) (now (trace .entry)))
         r (memories (now (main .exit)) (now (management .exit))) (now (events .entry)) (now (events .exit)) ⌝ }
 {
-    walk(trace, GROUP_LEVELS + 1, 1, start, 0, main, management, events)
+    walk(
+        trace,
+        GROUP_LEVELS + 1,
+        1,
+        start,
+        0,
+        main,
+        management,
+        events,
+    )
 }
 
 // Plays a trace and writes its text. The result is the text's size.

@@ -127,4 +127,3 @@ within-holds (suc d) l h e = rest-some (within d) (within-holds d) l 0 h e
 pub more-left : (depth : ℕ) (l : List ℕ) (at : ℕ) → at < length l → isEnd (rest (within depth) l at .reason) ≡ true
     → 0 < length (rest (within depth) l at .steps)
 more-left depth l at = rest-some (within depth) (within-holds depth) l at
-

@@ -5,15 +5,22 @@ ghost use Rattle.trace.specs.Trace.{registersOf, recordOf, isKind, group
 
 // The sizes of the kinds' bodies, where they have any.
 const REGISTERS_SIZE: usize = 28;
+
 const READ_SIZE: usize = 5;
+
 const WRITE_SIZE: usize = 9;
+
 const PORT_READ_SIZE: usize = 2;
+
 const PORT_WRITE_SIZE: usize = 3;
+
 const OPCODE_SIZE: usize = 10;
+
 const BOUNDARY_SIZE: usize = 17;
 
 // The kind of a group, and the size of its count.
 const GROUP: u16 = 16;
+
 const COUNT_SIZE: usize = 2;
 
 // What stands at a place: a record, as its step and the place past it, or a group, as its count, the place of its list and the place past it.

@@ -1,28 +1,50 @@
 use mathlib.Core.Path.{_≡_, refl, sym, ap, _∙_}
-use Prim.Native.Nat.{_-_, _≤_}
+use mathlib.Core.Logic.{⊎-elim}
+use Prim.Native.Nat.{_-_, _<_, _≤_}
 use native.Mathlib.Omega.{arith}
 use borrow.Author.Needs.{needs}
+use denote.Ref.{now}
 use lib.ListN.{length}
 use Rattle.memory.specs.Memory.{memories}
 use Rattle.scripts.specs.Scripts.{recordLimit}
-use Rattle.player.specs.Walks.{state, stopped}
-use mathlib.Core.Logic.{⊎-elim}
+use Rattle.player.specs.Walks.{state}
 use Rattle.player.proofs.States.{step-on}
-use Rattle.player.proofs.Stretching.{Running, running-all, running-turn, running-out, stretch-end, stretch-limit, stretch-found}
+use Rattle.player.proofs.Stretching.{Turned, turned-again, turned-not, stretch-end, stretch-limit, stretch-found, stopped-as, Running, running-all, running-turn, running-out}
 use Rattle.player.proofs.records.Statement.{statement}
 use Rattle.player.proofs.records.Tie as tie
 
+use Rattle.player.proofs.records.Reads as reads
+use Rattle.events.proofs.note.Reads as note-reads
+use Rattle.machine.proofs.Machine.anew.Reads as anew-reads
+use Rattle.machine.proofs.Machine.step.Reads as step-reads
+use Rattle.trace.proofs.record_at.Reads as record-at-reads
+use Rattle.player.proofs.records.Lts as lts
+
 abbrev Inv-loop : tie.InvT-loop
-Inv-loop list from done main₀ management₀ events₀ machine₀ place₀ count₀ main management events machine place count =
-    (count ≤ recordLimit) × (length main ≡ length main₀) × (length management ≡ length management₀)
-    × Running list place₀ (state machine₀ (memories main₀ management₀) count₀ events₀) place (state machine (memories main management) count events)
+Inv-loop list from rounds done main₀ management₀ events₀ machine₀ place₀ left₀ count₀ main management events machine place left count =
+    (0 < left) × (count ≤ recordLimit) × (length main ≡ length main₀) × (length management ≡ length management₀)
+    × Running list place₀ left₀ (state machine₀ (memories main₀ management₀) count₀ events₀) place left (state machine (memories main management) count events)
 
 abbrev μ-loop : tie.MeasureT-loop
-μ-loop list from done main₀ management₀ events₀ machine₀ place₀ count₀ main management events machine place count =
+μ-loop list from rounds done main₀ management₀ events₀ machine₀ place₀ left₀ count₀ main management events machine place left count =
     recordLimit - count
 
+abbrev claims : lts.Claims
+claims = (record-at-reads.Asked, record-at-reads.Learnt, step-reads.Asked, step-reads.Learnt, note-reads.Asked, note-reads.Learnt, anew-reads.Asked, anew-reads.Learnt)
+
+-- a turn begins at the place, or past the end with the next round
+turn : (c : lts.At-loop claims reads.Pre reads.Post Inv-loop μ-loop) (j : lts.Joined1·own claims reads.Pre reads.Post Inv-loop μ-loop c)
+    → Turned (now (c .before .before .before .before .args .list)) (c .loop .place) (c .loop .left) (j .place) (j .left)
+turn c j =
+    ⊎-elim (λ w. turned-again _ _ _ _ _ (w .0 .taken) (omega (arith, w .1 .left)) (w .2) (w .3))
+    (λ w. turned-not _ _ _ _ _ (w .0 .left) (c .loop .inv .0) (w .1) (w .2))
+    (j .came)
+
 loop-holds : tie.Need-loop-holds Inv-loop μ-loop
-loop-holds c = (search needs, refl, refl, running-all _ _ _)
+loop-holds c = (search needs, search needs, refl, refl, running-all _ _ _ _)
+
+sub-left : tie.Need-sub-left Inv-loop μ-loop
+sub-left c = search needs
 
 record-at-requires : tie.Need-record-at-requires Inv-loop μ-loop
 record-at-requires c κs = search needs
@@ -53,11 +75,13 @@ loop-again c =
     let stepped = c .before .before .before .before .before .before in
     let arm = stepped .before .before .before .before in
     let found = arm .before .before in
-    let loop = found .before .before .before .loop in (
+    let joined = found .before .before in
+    let t = turn (joined .before) (joined .if1) in (
+      t .some,
       search needs,
       search needs,
       search needs,
-      running-turn _ _ _ _ _ (loop .inv .3) (omega arith) _ _ (sym (found .record-at .ensures) ∙ arm .step .given .1) _
+      running-turn _ _ _ _ _ _ _ (joined .before .loop .inv .4) _ _ t (omega arith) _ _ (sym (found .record-at .ensures) ∙ arm .step .given .1) _
           (step-on _ _ _ _ _ _ _ (stepped .step2 .ensures) _ (c .before .note .ensures)),
     )
 
@@ -83,15 +107,15 @@ same-length-2 : tie.Need-same-length-2 Inv-loop μ-loop
 same-length-2 c = search needs
 
 returns : tie.Need-returns Inv-loop μ-loop
-returns c =
-    let loop = c .before .before .loop in
-    running-out _ _ _ _ _ (loop .inv .3) _
-    (⊎-elim (λ w. stretch-end _ _ _ (w .0 .taken) ∙ ap stopped (sym (w .1)))
-    (⊎-elim (λ w. stretch-limit _ _ _ (omega (arith, w .1 .taken)) (w .0 .left) ∙ ap stopped (sym (w .2)))
-    (⊎-elim (λ w. stretch-found _ _ _ (omega (arith, w .1 .left)) _ (sym (w .2 .ensures) ∙ w .4 .given .1) ∙ ap stopped (sym (w .6)))
-    (⊎-elim (λ w. stretch-found _ _ _ (omega (arith, w .1 .left)) _ (sym (w .2 .ensures) ∙ w .4 .given .1) ∙ ap stopped (sym (w .5)))
-    (⊎-elim (λ w. stretch-found _ _ _ (omega (arith, w .1 .left)) _ (sym (w .2 .ensures) ∙ w .4 .given .1) ∙ ap stopped (sym (w .5)))
-    (λ w. stretch-found _ _ _ (omega (arith, w .1 .left)) _ (sym (w .2 .ensures) ∙ w .4 .given .1) ∙ ap stopped (sym (w .5)))))))
+returns c = 
+    let at-loop = c .before .before in
+    running-out _ _ _ _ _ _ _ (at-loop .loop .inv .4) _ _
+    (⊎-elim (λ w. stretch-end _ _ _ _ (w .0 .taken) (w .1 .taken) ∙ stopped-as (w .3) (w .4))
+    (⊎-elim (λ w. stretch-limit _ _ _ _ _ (turn at-loop (w .0)) _ (omega (arith, w .1 .taken)) ∙ stopped-as (w .3) (w .4))
+    (⊎-elim (λ w. stretch-found _ _ _ _ _ (turn at-loop (w .0)) _ (omega (arith, w .1 .left)) _ (sym (w .2 .ensures) ∙ w .4 .given .1) ∙ stopped-as (w .7) (w .8))
+    (⊎-elim (λ w. stretch-found _ _ _ _ _ (turn at-loop (w .0)) _ (omega (arith, w .1 .left)) _ (sym (w .2 .ensures) ∙ w .4 .given .1) ∙ stopped-as (w .6) (w .7))
+    (⊎-elim (λ w. stretch-found _ _ _ _ _ (turn at-loop (w .0)) _ (omega (arith, w .1 .left)) _ (sym (w .2 .ensures) ∙ w .4 .given .1) ∙ stopped-as (w .6) (w .7))
+    (λ w. stretch-found _ _ _ _ _ (turn at-loop (w .0)) _ (omega (arith, w .1 .left)) _ (sym (w .2 .ensures) ∙ w .4 .given .1) ∙ stopped-as (w .6) (w .7))))))
     (c .before .if1 .came))
     _ (c .anew .ensures)
 
@@ -102,6 +126,7 @@ records-spec =
     Inv-loop
     μ-loop
     loop-holds
+    sub-left
     record-at-requires
     enum-known-step
     step-requires
