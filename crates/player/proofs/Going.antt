@@ -9,7 +9,7 @@ use Rattle.steps.specs.declared.Step.{Step}
 use Rattle.lines.specs.declared.Reason.{Reason}
 use Rattle.lines.specs.declared.Reason.the-variants as why
 use Rattle.scripts.specs.Scripts.{recordLimit, Script, isEnd, stops, joins, limited}
-use Rattle.scripts.proofs.Limits.{ends, limited-end, limited-stop, limited-none, limited-joins, limited-all, limited-cut, end-fits, not-end-cut, cut-limit, limited-within}
+use Rattle.scripts.proofs.Limits.{ends, limited-joins, limited-all, limited-cut, end-fits, not-end-cut, cut-limit, limited-within}
 use Rattle.player.specs.Walks.{State, after, Goes}
 use Rattle.player.proofs.States.{after-append, after-count}
 
@@ -25,18 +25,9 @@ goes-room s h o r g i =
 
 module _ (s o : State) (r : Reason) (h : Script) (g : Goes s h o r) where
   -- no steps are left of it
-  goes-stops : (q : Reason) → taken s h ≡ stops q → (s ≡ o) × (q ≡ r)
+  pub goes-stops : (q : Reason) → taken s h ≡ stops q → (s ≡ o) × (q ≡ r)
   unfolding after
   goes-stops q e = (sym (g .state-is ∙ ap (λ (t : Script). after s (t .steps)) e), sym (g .reason-is ∙ ap (λ (t : Script). t .reason) e))
-
-  pub go-end : h ≡ stops why.End → (s ≡ o) × (why.End ≡ r)
-  go-end e = goes-stops why.End (ap (taken s) e ∙ limited-end (recordLimit - s .count))
-
-  pub go-stop : (q : Reason) → h ≡ stops q → s .count < recordLimit → (s ≡ o) × (q ≡ r)
-  go-stop q e i = goes-stops q (ap (taken s) e ∙ limited-stop (recordLimit - s .count) q (omega arith))
-
-  pub go-limit : recordLimit ≤ s .count → (isEnd (h .reason) ≡ true → 0 < length (h .steps)) → (s ≡ o) × (why.Limit ≡ r)
-  go-limit i f = goes-stops why.Limit (limited-none (recordLimit - s .count) h (omega arith) f)
 
   -- some steps, and then the rest
   module _ (ss : List Step) (u : Script) (e : h ≡ joins ss u) where

@@ -12,7 +12,6 @@ use Rattle.player.proofs.States.{step-on}
 use Rattle.player.proofs.Stretching.{Turned, turned-again, turned-not, stretch-end, stretch-limit, stretch-found, stopped-as, Running, running-all, running-turn, running-out}
 use Rattle.player.proofs.records.Statement.{statement}
 use Rattle.player.proofs.records.Tie as tie
-
 use Rattle.player.proofs.records.Reads as reads
 use Rattle.events.proofs.note.Reads as note-reads
 use Rattle.machine.proofs.Machine.anew.Reads as anew-reads
@@ -71,7 +70,7 @@ loop-less : tie.Need-loop-less Inv-loop μ-loop
 loop-less c = search needs
 
 loop-again : tie.Need-loop-again Inv-loop μ-loop
-loop-again c = 
+loop-again c =
     let stepped = c .before .before .before .before .before .before in
     let arm = stepped .before .before .before .before in
     let found = arm .before .before in
@@ -107,7 +106,7 @@ same-length-2 : tie.Need-same-length-2 Inv-loop μ-loop
 same-length-2 c = search needs
 
 returns : tie.Need-returns Inv-loop μ-loop
-returns c = 
+returns c =
     let at-loop = c .before .before in
     running-out _ _ _ _ _ _ _ (at-loop .loop .inv .4) _ _
     (⊎-elim (λ w. stretch-end _ _ _ _ (w .0 .taken) (w .1 .taken) ∙ stopped-as (w .3) (w .4))
