@@ -126,6 +126,26 @@ fn random_bytes(random: &mut Random, traces: &[Vec<u8>]) -> Vec<u8> {
         }
     }
     bytes.truncate(random.below(bytes.len() + 1));
+    // Sometimes in groups, one in the other, with something before and behind it.
+    if random.below(3) == 0 {
+        for _ in 0..1 + random.below(9) {
+            let count = *random.one_of(&[0, 1, 1, 1, 2, 2, 3, 10, 300, 65_535u16]);
+            bytes = grouped(count, &bytes);
+            if random.below(3) == 0 {
+                bytes.extend([2, 0, 10, 0]);
+            }
+        }
+        bytes.extend(random.one_of(&[&[][..], &[2, 0, 9, 0], &[2]]).iter());
+    }
+    bytes
+}
+
+/// A group with this list.
+fn grouped(count: u16, list: &[u8]) -> Vec<u8> {
+    let mut bytes = (list.len() as u16 + 4).to_le_bytes().to_vec();
+    bytes.extend([16, 0]);
+    bytes.extend(count.to_le_bytes());
+    bytes.extend(list);
     bytes
 }
 
@@ -160,6 +180,46 @@ fn expects(text: &[u8]) -> bool {
     text.split(|byte| *byte == b'\n').any(expecting)
 }
 
+/// Another answer or reason that could stand in the place of this one.
+fn other(part: &str) -> String {
+    let words: Vec<&str> = part.split_whitespace().collect();
+    match words[..] {
+        ["end"] => "bad".into(),
+        ["limit" | "torn" | "bad" | "long"] => "end".into(),
+        ["6", value] => format!(
+            "6 {}{}",
+            if value.starts_with('0') { '1' } else { '0' },
+            &value[1..]
+        ),
+        ["12"] => "11".into(),
+        [number] => (number.parse::<u32>().expect("an answer") + 1).to_string(),
+        _ => panic!("no answer: {part}"),
+    }
+}
+
+/// What stands behind `=>` with one answer changed, or how many times it comes.
+fn others(right: &str) -> Vec<String> {
+    let parts: Vec<&str> = right.split(',').map(str::trim).collect();
+    let mut all = Vec::new();
+    for (index, part) in parts.iter().enumerate() {
+        let with = |part: String| {
+            let mut parts: Vec<String> = parts.iter().map(|part| part.to_string()).collect();
+            parts[index] = part;
+            parts.join(", ")
+        };
+        match part.rsplit_once(" x") {
+            Some((answer, times)) => {
+                let times: usize = times.trim().parse().expect("a number of times");
+                let less = if times < 2 { 2 } else { times - 1 };
+                all.push(with(format!("{} x{times}", other(answer))));
+                all.push(with(format!("{answer} x{less}")));
+            }
+            None => all.push(with(other(part))),
+        }
+    }
+    all
+}
+
 /// The text with one expectation changed to another that could stand there, for each that it has.
 fn spoilt(text: &str) -> Vec<(usize, String)> {
     let lines: Vec<&str> = text.lines().collect();
@@ -169,23 +229,12 @@ fn spoilt(text: &str) -> Vec<(usize, String)> {
         let Some((left, right)) = code.split_once("=>") else {
             continue;
         };
-        let words: Vec<&str> = right.split_whitespace().collect();
-        let other = match words[..] {
-            ["end"] => "bad".into(),
-            ["limit" | "torn" | "bad" | "long"] => "end".into(),
-            ["6", value] => format!(
-                "6 {}{}",
-                if value.starts_with('0') { '1' } else { '0' },
-                &value[1..]
-            ),
-            ["12"] => "11".into(),
-            [number] => (number.parse::<u32>().expect("an answer") + 1).to_string(),
-            _ => panic!("line {}: {right}", index + 1),
-        };
-        let mut changed = lines.clone();
-        let line = format!("{left}=> {other}");
-        changed[index] = &line;
-        all.push((index + 1, changed.join("\n")));
+        for other in others(right) {
+            let mut changed = lines.clone();
+            let line = format!("{left}=> {other}");
+            changed[index] = &line;
+            all.push((index + 1, changed.join("\n")));
+        }
     }
     all
 }
