@@ -105,6 +105,8 @@ fn binary_fault(name: &str, bytes: &[u8], (edition, program): (&str, &str)) -> O
     let proved = run(program, &[], bytes);
     match lines.status.code() {
         Some(0) if lines.stdout == proved.stdout => None,
+        // Taken for a text without lines.
+        Some(0) if bytes.iter().all(u8::is_ascii_whitespace) => None,
         // Taken for a text with an error: the program has no record of it either.
         Some(2) if !proved.stdout.contains(&b' ') => None,
         _ => Some("its lines are not those of the proved program".into()),
@@ -119,6 +121,12 @@ fn random_bytes(random: &mut Random, traces: &[Vec<u8>]) -> Vec<u8> {
     // Pieces of true traces, so that records are played too.
     let mut bytes = random.one_of(traces).clone();
     bytes.truncate(4_000);
+    if random.below(3) == 0 {
+        bytes = in_groups(random, bytes);
+        if random.below(2) == 0 {
+            return bytes;
+        }
+    }
     for _ in 0..random.below(4) {
         if !bytes.is_empty() {
             let at = random.below(bytes.len());
@@ -126,17 +134,24 @@ fn random_bytes(random: &mut Random, traces: &[Vec<u8>]) -> Vec<u8> {
         }
     }
     bytes.truncate(random.below(bytes.len() + 1));
-    // Sometimes in groups, one in the other, with something before and behind it.
-    if random.below(3) == 0 {
-        for _ in 0..1 + random.below(9) {
-            let count = *random.one_of(&[0, 1, 1, 1, 2, 2, 3, 10, 300, 65_535u16]);
-            bytes = grouped(count, &bytes);
-            if random.below(3) == 0 {
-                bytes.extend([2, 0, 10, 0]);
-            }
+    bytes
+}
+
+/// The bytes in groups, one in the other, with something before and behind them.
+fn in_groups(random: &mut Random, mut bytes: Vec<u8>) -> Vec<u8> {
+    let wake = [2, 0, 10, 0];
+    for _ in 0..1 + random.below(9) {
+        let count = match random.below(30) {
+            0 => 0,
+            _ => *random.one_of(&[1, 1, 2, 3, 10, 300, 65_535]),
+        };
+        bytes = grouped(count, &bytes);
+        if random.below(3) == 0 {
+            bytes.extend(wake);
         }
-        bytes.extend(random.one_of(&[&[][..], &[2, 0, 9, 0], &[2]]).iter());
     }
+    bytes.splice(0..0, wake);
+    bytes.extend(*random.one_of(&[&[][..], &[2, 0, 9, 0], &[2]]));
     bytes
 }
 
