@@ -2,7 +2,7 @@
 
 use crate::played::{Outcome, Played};
 use crate::rostuvlad::VALUE;
-use crate::text::{Answer, Block, Line, Text};
+use crate::text::{Answer, Block, Expected, Line, Text};
 use crate::words::shortened;
 use std::ops::Range;
 
@@ -32,6 +32,48 @@ pub fn show_answer((number, value): Answer) -> String {
     }
 }
 
+/// So many stretches of equal answers are shown of a line at the most.
+const STRETCHES: usize = 8;
+
+/// Answers one after the other, and how many times each comes.
+pub fn show_answers(answers: impl Iterator<Item = Answer>) -> String {
+    let mut stretches: Vec<(Answer, usize)> = Vec::new();
+    for answer in answers {
+        match stretches.last_mut() {
+            Some((last, times)) if *last == answer => *times += 1,
+            _ => stretches.push((answer, 1)),
+        }
+    }
+    show_stretches(&stretches)
+}
+
+fn show_stretches(stretches: &[(Answer, usize)]) -> String {
+    let stretch = |(answer, times): &(Answer, usize)| match times {
+        1 => show_answer(*answer),
+        _ => format!("{} x{times}", show_answer(*answer)),
+    };
+    let shown: Vec<String> = stretches.iter().take(STRETCHES).map(stretch).collect();
+    let more = if stretches.len() > STRETCHES {
+        ", .."
+    } else {
+        ""
+    };
+    format!("{}{more}", shown.join(", "))
+}
+
+pub fn show_expected(expected: &Expected) -> String {
+    show_stretches(&expected.stretches)
+}
+
+/// How many records end in a line, and how many were to, where that is another number.
+pub fn other_count(expected: &Expected, records: usize) -> Option<(String, String)> {
+    let ends = match records {
+        1 => "1 record ends here".into(),
+        _ => format!("{records} records end here"),
+    };
+    (!expected.is_count(records)).then(|| (ends, expected.count()))
+}
+
 /// What is said of a line in which no record ends.
 pub fn without_record(outcome: &Outcome) -> &'static str {
     if outcome.whole {
@@ -46,24 +88,22 @@ pub struct Difference<'a> {
     block: &'a Block,
     line: &'a Line,
     turns: Range<usize>,
+    /// Which of the records that end in the line it is, where there are several.
+    record: String,
     came: String,
+    expected: String,
 }
 
 impl Difference<'_> {
     pub fn show(&self, text: &Text) -> String {
-        let Line {
-            number, expected, ..
-        } = self.line;
+        let number = self.line.number;
         let turns = match self.block.repeat {
             Some(_) => format!("{}: ", show_turns(&self.turns, self.block.turns)),
             None => String::new(),
         };
-        let code = shortened(text.code(*number), 120);
-        let expected = expected.map(show_answer).unwrap_or_default();
-        format!(
-            "{number}: {turns}{code}: {}, expected {expected}",
-            self.came
-        )
+        let code = shortened(text.code(number).trim_start(), 120);
+        let (record, came, expected) = (&self.record, &self.came, &self.expected);
+        format!("{number}: {turns}{record}{code}: {came}, expected {expected}")
     }
 }
 
@@ -83,12 +123,15 @@ pub fn differences<'a>(text: &'a Text, played: &Played) -> Vec<Difference<'a>> {
         for turns in one_by_one.chain(unplayed) {
             for index in block.lines.clone() {
                 let line = &text.lines[index];
-                let outcome = played.outcome(block.place(turns.start, index));
-                all.extend(unmet(line, &outcome, played).map(|came| Difference {
+                let outcome = played.outcome(line, block.place(turns.start, index));
+                let unmet = unmet(line, &outcome, played);
+                all.extend(unmet.map(|(record, came, expected)| Difference {
                     block,
                     line,
                     turns: turns.clone(),
+                    record,
                     came,
+                    expected,
                 }));
             }
         }
@@ -103,14 +146,26 @@ pub fn other_reason(text: &Text, played: &Played) -> Option<String> {
     (stop != reason).then(|| format!("{line}: stopped with {stop}, expected {reason}"))
 }
 
-/// What came of a line, where that is not what it expects.
-fn unmet(line: &Line, outcome: &Outcome, played: &Played) -> Option<String> {
-    let expected = line.expected?;
-    if outcome.records.is_empty() {
-        return Some(without_record(outcome).into());
+/// Which record of a line is not what is expected, what came of it and what was expected: of the
+/// first such record, or of how many there are.
+fn unmet(line: &Line, outcome: &Outcome, played: &Played) -> Option<(String, String, String)> {
+    let expected = line.expected.as_ref()?;
+    let records = outcome.records;
+    if records.is_empty() {
+        let came = without_record(outcome).into();
+        return Some((String::new(), came, show_expected(expected)));
     }
-    let mut answers = outcome.records.clone().map(|record| played.answer(record));
-    answers.find(|answer| *answer != expected).map(show_answer)
+    let mut answers = expected.answers().zip(records).enumerate();
+    let other = answers.find(|(_, (answer, record))| *answer != played.answer(**record));
+    if let Some((index, (answer, record))) = other {
+        let place = match records.len() {
+            1 => String::new(),
+            all => format!("record {} of {all}: ", index + 1),
+        };
+        let came = show_answer(played.answer(*record));
+        return Some((place, came, show_answer(answer)));
+    }
+    other_count(expected, records.len()).map(|(came, count)| (String::new(), came, count))
 }
 
 pub fn show_turns(turns: &Range<usize>, of: usize) -> String {

@@ -1,10 +1,10 @@
 //! A trace played on the proved library: which records end in which line, and their answers.
 
 use crate::edition::Edition;
-use crate::form::{first_record, framing, Stop, INPUT_LIMIT};
+use crate::form::{first_sound, framing, Fault, Framing, Item, Stop, INPUT_LIMIT};
 use crate::rostuvlad::{self, Event, Reason};
 use crate::show::show_record;
-use crate::text::{ending, Answer, Place, Text};
+use crate::text::{ending, Answer, Form, Line, Place, Text};
 use std::ops::Range;
 
 #[derive(Clone)]
@@ -17,22 +17,25 @@ pub struct Memories {
 pub struct Played {
     bytes: Vec<u8>,
     places: Vec<Place>,
-    /// Where each record ends, and what was noted of it.
-    ends: Vec<usize>,
+    /// Where each record lies, in the order in which they were played, and what was noted of it.
+    framing: Framing,
     events: Vec<Event>,
+    /// How many bytes were played.
+    reached: usize,
     /// The records that end in each place.
-    ending: Vec<Range<usize>>,
+    ending: Vec<Vec<usize>>,
     edition: Edition,
     pub stop: Stop,
 }
 
 /// What came of a line in one place.
-pub struct Outcome {
-    /// The records that end there.
-    pub records: Range<usize>,
+pub struct Outcome<'a> {
+    /// The records that end there, in the order in which they were played.
+    pub records: &'a [usize],
     /// Whether all its bytes were played.
     pub whole: bool,
-    /// Whether it is one record.
+    /// Whether it is one record, which is played again in each turn of the groups round it, or the head
+    /// of a group.
     pub own: bool,
 }
 
@@ -64,21 +67,22 @@ pub fn play(
     let (bytes, places) = placed.unwrap_or_default();
     let Memories { main, management } = memories;
     let replay = player_of(edition).replay(&bytes, main, management);
-    // Where records end is told by their form, and has to be what the library found.
-    let (ends, stop) = framing(&bytes);
-    if replay.events.len() != ends.len() || stop_of(replay.reason) != stop {
+    // Where records lie is told by their form, and has to be what the library found.
+    let framing = framing(&bytes);
+    if replay.events.len() != framing.records.len() || stop_of(replay.reason) != framing.stop {
         return Err(format!(
             "{name}: the tool and the library read it differently: report it"
         ));
     }
     Ok(Played {
-        ending: ending(&places, &ends),
+        ending: ending(&places, &framing.records),
+        reached: framing.records.iter().map(|r| r.end).max().unwrap_or(0),
         bytes,
         places,
-        ends,
         events: replay.events,
         edition,
-        stop: if long { Stop::Long } else { stop },
+        stop: if long { Stop::Long } else { framing.stop },
+        framing,
     })
 }
 
@@ -92,35 +96,40 @@ impl Played {
         (event.answer(), event.value())
     }
 
-    fn start(&self, record: usize) -> usize {
-        match record {
-            0 => 0,
-            _ => self.ends[record - 1],
-        }
-    }
-
-    fn bytes_of(&self, record: usize) -> Range<usize> {
-        self.start(record)..self.ends[record]
+    /// The bytes of a record.
+    pub fn bytes_of(&self, record: usize) -> Range<usize> {
+        self.framing.records[record].clone()
     }
 
     pub fn text_of(&self, record: usize) -> String {
-        match first_record(&self.bytes[self.bytes_of(record)]) {
-            Ok((record, _)) => show_record(&record, self.edition),
-            Err(_) => unreachable!("the record was played"),
+        match first_sound(&self.bytes[self.bytes_of(record)]) {
+            Ok((Item::Record(record), _)) => show_record(&record, self.edition),
+            _ => unreachable!("the record was played"),
         }
     }
 
-    /// How many bytes were played.
+    /// How many bytes were played, where it didn't stop in a group.
     pub fn played_to(&self) -> usize {
-        self.start(self.ends.len())
+        self.reached
     }
 
-    pub fn outcome(&self, place: usize) -> Outcome {
+    /// What was wrong where it stopped.
+    pub fn fault(&self) -> Option<Fault> {
+        first_sound(&self.bytes[self.reached..]).err()
+    }
+
+    /// What came of a line in one of its places.
+    pub fn outcome(&self, line: &Line, place: usize) -> Outcome<'_> {
         let bytes = self.places.get(place).map(|place| &place.bytes);
-        let records = self.ending.get(place).cloned().unwrap_or(0..0);
+        let records = self.ending.get(place).map_or(&[][..], |records| records);
+        let is_own = |record: &usize| bytes == Some(&self.bytes_of(*record));
+        let begins = bytes.is_some_and(|bytes| self.framing.groups.contains(&bytes.start));
         Outcome {
-            whole: bytes.is_some_and(|bytes| bytes.end <= self.played_to()),
-            own: records.len() == 1 && bytes == Some(&self.bytes_of(records.start)),
+            whole: bytes.is_some_and(|bytes| bytes.end <= self.reached),
+            own: match line.form {
+                Form::Group => records.is_empty() && begins,
+                _ => !records.is_empty() && records.iter().all(is_own),
+            },
             records,
         }
     }
@@ -128,19 +137,20 @@ impl Played {
     /// Whether a byte of the place was played.
     pub fn is_begun(&self, place: usize) -> bool {
         let place = self.places.get(place);
-        place.is_some_and(|place| place.bytes.start < self.played_to())
+        place.is_some_and(|place| place.bytes.start < self.reached)
     }
 
     /// Whether the same came of two places: the same records end there at the same distance, with the
     /// same answers, and both were played to the end or neither.
     pub fn is_same(&self, one: usize, other: usize) -> bool {
+        let is_whole = |place: usize| self.places[place].bytes.end <= self.reached;
         let of_place = |place: usize| {
             let start = self.places[place].bytes.start;
-            self.ending[place].clone().map(move |record| {
-                let bytes = self.bytes_of(record);
-                (bytes.end - start, &self.bytes[bytes], self.answer(record))
+            self.ending[place].iter().map(move |record| {
+                let bytes = self.bytes_of(*record);
+                (bytes.end - start, &self.bytes[bytes], self.answer(*record))
             })
         };
-        of_place(one).eq(of_place(other)) && self.outcome(one).whole == self.outcome(other).whole
+        of_place(one).eq(of_place(other)) && is_whole(one) == is_whole(other)
     }
 }

@@ -1,10 +1,13 @@
 //! A trace's text with the answer of each record.
 
-use crate::differences::{played_turns, show_answer, show_turns, without_record};
+use crate::differences::{
+    other_count, played_turns, show_answers, show_expected, show_turns, without_record,
+};
 use crate::form::Stop;
 use crate::output::Output;
 use crate::played::Played;
-use crate::text::{Answer, Block, Line, Text};
+use crate::text::{Answer, Block, Form, Line, Text};
+use std::collections::BTreeMap;
 use std::ops::Range;
 
 /// How wide the text before an answer is, at the least.
@@ -93,34 +96,66 @@ impl Report<'_> {
         }
     }
 
-    /// A line with the answer of its record, or with the records that end in it under it.
+    /// A line with the answers of its record, or with the records that end in it under it.
     fn line(&mut self, line: &Line, place: usize) {
-        let outcome = self.played.outcome(place);
-        let records = outcome.records.clone();
-        if outcome.own && !line.raw {
-            return self.put_line(line.number, &self.answered(line, records.start));
+        let outcome = self.played.outcome(line, place);
+        let records = outcome.records;
+        let expected = line.expected.as_ref();
+        match line.form {
+            Form::Group if outcome.own => return self.put_line(line.number, ""),
+            Form::Record if outcome.own => {
+                let answers = self.answers(records);
+                let met = expected.is_none_or(|expected| {
+                    expected.is_count(records.len())
+                        && expected.answers().zip(&answers).all(|(e, a)| e == *a)
+                });
+                let differs = expected.filter(|_| !met).map(show_expected);
+                let answers = show_answers(answers.into_iter());
+                return self.put_line(line.number, &format!("-> {answers}{}", differing(differs)));
+            }
+            _ => (),
         }
-        let remark = match (records.is_empty(), outcome.whole) {
-            (true, _) => format!(
-                "-> {}{}",
-                without_record(&outcome),
-                differing(line.expected)
-            ),
-            (false, true) => String::new(),
-            (false, false) => "-> not played to its end".into(),
+        let count = expected.and_then(|expected| other_count(expected, records.len()));
+        let remark = match (records.is_empty(), outcome.whole, count) {
+            (true, ..) => {
+                let expected = expected.map(show_expected);
+                format!("-> {}{}", without_record(&outcome), differing(expected))
+            }
+            (false, _, Some((came, count))) => format!("-> {came}{}", differing(Some(count))),
+            (false, true, None) => String::new(),
+            (false, false, None) => "-> not played to its end".into(),
         };
         self.put_line(line.number, &remark);
-        for record in records {
-            let text = format!("  {}", self.played.text_of(record));
-            self.put(&text, &self.answered(line, record), None);
+        self.under(line, records);
+    }
+
+    /// The records that end in a line, each with its answers, one for each turn of the groups round it.
+    fn under(&mut self, line: &Line, records: &[usize]) {
+        let expected = line.expected.as_ref();
+        let mut expected: Vec<Answer> = expected.map_or(Vec::new(), |expected| {
+            expected.answers().take(records.len()).collect()
+        });
+        let answers = self.answers(records);
+        // What is wanting or over is told with the line.
+        expected.extend(&answers[expected.len()..]);
+        let mut by_end: BTreeMap<usize, Vec<usize>> = BTreeMap::new();
+        for (index, record) in records.iter().enumerate() {
+            let end = self.played.bytes_of(*record).end;
+            by_end.entry(end).or_default().push(index);
+        }
+        for own in by_end.into_values() {
+            let differs = own.iter().any(|index| expected[*index] != answers[*index]);
+            let of = |all: &[Answer]| show_answers(own.iter().map(|index| all[*index]));
+            let differs = differs.then(|| of(&expected));
+            let remark = format!("-> {}{}", of(&answers), differing(differs));
+            let text = format!("  {}", self.played.text_of(records[own[0]]));
+            self.put(&text, &remark, None);
         }
     }
 
-    /// A record's answer, and whether it is what the line expects.
-    fn answered(&self, line: &Line, record: usize) -> String {
-        let answer = self.played.answer(record);
-        let differs = line.expected.filter(|expected| *expected != answer);
-        format!("-> {}{}", show_answer(answer), differing(differs))
+    fn answers(&self, records: &[usize]) -> Vec<Answer> {
+        let answers = records.iter().map(|record| self.played.answer(*record));
+        answers.collect()
     }
 
     /// A line of the text with a remark in the place of its expectation.
@@ -134,6 +169,20 @@ impl Report<'_> {
         self.out.line(&format!("{}{comment}", line.trim_end()));
     }
 
+    /// What is bad at a byte, and where within the group that begins there.
+    fn bad(&self, at: usize) -> String {
+        match self.played.fault() {
+            Some(fault) if fault.at > 0 => {
+                let (within, what) = (at + fault.at, fault.what);
+                format!("stopped at byte {at}: the group is bad: at byte {within}, {what}")
+            }
+            fault => {
+                let what = fault.map_or("", |fault| fault.what);
+                format!("stopped at byte {at}: {what}")
+            }
+        }
+    }
+
     /// Why it stopped, where that is not the end that was to be expected.
     fn stop(&mut self) {
         let at = self.played.played_to();
@@ -141,7 +190,7 @@ impl Report<'_> {
             Stop::End => "stopped at the end".into(),
             Stop::Limit => "stopped after 10,000 records, the most that are played".into(),
             Stop::Torn => format!("stopped at byte {at}: the trace ends within a record"),
-            Stop::Bad => format!("stopped at byte {at}: no record has this length and kind"),
+            Stop::Bad => self.bad(at),
             Stop::Long => "not played: a trace has 65,536 bytes at most".into(),
         };
         let expected = self.text.reason.map(|(_, reason)| reason);
@@ -156,8 +205,8 @@ impl Report<'_> {
     }
 }
 
-fn differing(expected: Option<Answer>) -> String {
+fn differing(expected: Option<String>) -> String {
     expected.map_or(String::new(), |expected| {
-        format!("  DIFFERS, expected {}", show_answer(expected))
+        format!("  DIFFERS, expected {expected}")
     })
 }

@@ -2,21 +2,21 @@
 
 use crate::edition::{Edition, RSM, SEGMENT_OPCODES};
 use crate::form::{
-    first_record, Record, BOUNDARY, HALT, IN, OPCODE, OUT, READ, REGISTERS, RESET, WAKE, WRITE,
+    first_sound, items, Item, Record, BOUNDARY, HALT, IN, OPCODE, OUT, READ, REGISTERS, RESET,
+    WAKE, WRITE,
 };
 use crate::words::{ADDRESS_ALONE, INTERRUPTIONS, SEGMENTS};
 
-/// A line for each record, and `raw` lines for what is left at the first that is torn or bad: the
-/// text always stands for the same bytes. It says its edition where a text that says none is of
-/// another.
+/// A line for each record, and two for each group, round what it holds; `raw` lines for what is left
+/// at the first that is torn or bad, an outermost group with anything wrong in it too: the text always
+/// stands for the same bytes. It says its edition where a text that says none is of another.
 pub fn show_trace(mut bytes: &[u8], edition: Edition) -> String {
     let mut out = String::new();
     if edition != Edition::default() {
         out.push_str(&format!("edition {}\n", edition.word()));
     }
-    while let Ok((record, rest)) = first_record(bytes) {
-        out.push_str(&show_record(&record, edition));
-        out.push('\n');
+    while let Ok((item, rest)) = first_sound(bytes) {
+        show_item(&item, edition, 0, &mut out);
         bytes = rest;
     }
     for chunk in bytes.chunks(16) {
@@ -24,6 +24,24 @@ pub fn show_trace(mut bytes: &[u8], edition: Edition) -> String {
         out.push_str(&format!("raw{chunk}\n"));
     }
     out
+}
+
+/// A record or a sound group, which stands in so many groups.
+fn show_item(item: &Item, edition: Edition, level: usize, out: &mut String) {
+    let indent = "  ".repeat(level);
+    match item {
+        Item::Record(record) => {
+            let record = show_record(record, edition);
+            out.push_str(&format!("{indent}{record}\n"));
+        }
+        Item::Group(group) => {
+            out.push_str(&format!("{indent}group {}\n", group.count));
+            for inner in items(group.list) {
+                show_item(&inner, edition, level + 1, out);
+            }
+            out.push_str(&format!("{indent}end-group\n"));
+        }
+    }
 }
 
 pub fn show_record(record: &Record, edition: Edition) -> String {
@@ -54,7 +72,7 @@ pub fn show_record(record: &Record, edition: Edition) -> String {
             f.number(4),
         ),
         BOUNDARY => show_boundary(&mut f),
-        kind => unreachable!("first_record gives no kind {kind}"),
+        kind => unreachable!("no record has the kind {kind}"),
     }
 }
 

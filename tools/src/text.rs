@@ -1,8 +1,9 @@
 //! A trace's text (docs/TRACES.md): its lines, what they expect, and the bytes that they stand for.
 
 use crate::edition::Edition;
-use crate::form::Stop;
+use crate::form::{Stop, GROUP, GROUP_HEAD, RECORD_LIMIT};
 use crate::words::{hex, parse_number, quoted, record};
+use std::iter::repeat;
 use std::ops::Range;
 
 /// What is wrong with a line.
@@ -23,12 +24,57 @@ impl Problem {
 /// An answer's number and value.
 pub type Answer = (u8, u32);
 
+/// The answers that are expected of the records that end in a line, in the order in which they are
+/// played.
+#[derive(Clone)]
+pub struct Expected {
+    /// Each answer, and how many times it comes.
+    pub stretches: Vec<(Answer, usize)>,
+    /// Whether the last is that of all further records, too.
+    pub open: bool,
+}
+
+impl Expected {
+    pub fn answers(&self) -> impl Iterator<Item = Answer> + '_ {
+        let further = self.stretches.last().filter(|_| self.open);
+        let further = further.into_iter().flat_map(|(answer, _)| repeat(*answer));
+        let stretches = self.stretches.iter();
+        stretches
+            .flat_map(|(answer, times)| repeat(*answer).take(*times))
+            .chain(further)
+    }
+
+    /// Whether so many records are not too few, nor too many.
+    pub fn is_count(&self, records: usize) -> bool {
+        let least = self.least();
+        records == least || self.open && least < records
+    }
+
+    /// How many records there are to be, as it is told.
+    pub fn count(&self) -> String {
+        let more = if self.open { " or more" } else { "" };
+        format!("{}{more}", self.least())
+    }
+
+    fn least(&self) -> usize {
+        self.stretches.iter().map(|(_, times)| times).sum()
+    }
+}
+
+#[derive(Clone, Copy, PartialEq, Eq)]
+pub enum Form {
+    Record,
+    Raw,
+    /// The head of a group; what it holds has lines of its own.
+    Group,
+}
+
 /// A line that stands for bytes.
 pub struct Line {
     pub number: usize,
     pub bytes: Vec<u8>,
-    pub raw: bool,
-    pub expected: Option<Answer>,
+    pub form: Form,
+    pub expected: Option<Expected>,
 }
 
 /// Lines that stand for their bytes so many times: those of a `repeat`, or some outside of any.
@@ -111,18 +157,14 @@ impl Text {
     }
 }
 
-/// The records that end in each place, by where each of them ends.
-pub fn ending(places: &[Place], ends: &[usize]) -> Vec<Range<usize>> {
-    let mut next = 0;
-    let of_place = |place: &Place| {
-        let first = next;
-        next += ends[first..]
-            .iter()
-            .take_while(|end| **end <= place.bytes.end)
-            .count();
-        first..next
-    };
-    places.iter().map(of_place).collect()
+/// The records that end in each place, in the order in which they are played.
+pub fn ending(places: &[Place], records: &[Range<usize>]) -> Vec<Vec<usize>> {
+    let mut ending = vec![Vec::new(); places.len()];
+    for (record, bytes) in records.iter().enumerate() {
+        let place = places.partition_point(|place| place.bytes.end < bytes.end);
+        ending[place].push(record);
+    }
+    ending
 }
 
 /// The file's lines, without a byte order mark.
@@ -179,6 +221,9 @@ pub fn parse(bytes: &[u8], asked: Option<Edition>) -> Result<Text, Vec<Problem>>
     if let Some(open) = &reading.open {
         problems.push(Problem::at(open.line, "`repeat` without `end-repeat`"));
     }
+    for group in &reading.groups {
+        problems.push(Problem::at(group.line, "`group` without `end-group`"));
+    }
     if !problems.is_empty() {
         problems.sort_by_key(|p| p.line);
         return Err(problems);
@@ -191,14 +236,27 @@ pub fn parse(bytes: &[u8], asked: Option<Edition>) -> Result<Text, Vec<Problem>>
 struct Open {
     line: usize,
     turns: usize,
-    /// Whether a record was named in it, rightly or not.
+    /// Whether a record or a group was named in it, rightly or not.
     holds: bool,
+    /// How many groups it stands in.
+    level: usize,
+}
+
+/// A `group` whose end has not come yet.
+struct OpenGroup {
+    line: usize,
+    /// Its place among the text's lines.
+    head: usize,
+    /// Bytes of what it holds.
+    size: usize,
 }
 
 #[derive(Default)]
 struct Reading {
     text: Text,
     open: Option<Open>,
+    /// Each of them in the one before.
+    groups: Vec<OpenGroup>,
     asked: Option<Edition>,
     /// The line that says the edition.
     said: Option<usize>,
@@ -230,6 +288,8 @@ impl Reading {
             "edition" => self.edition(number, &words),
             "repeat" => self.repeat(number, &words),
             "end-repeat" => self.end_repeat(number, &words),
+            "group" => self.group(number, &words),
+            "end-group" => self.end_group(&words),
             _ => return self.record(number, &words, right.as_deref()),
         };
         match right {
@@ -243,7 +303,9 @@ impl Reading {
             return Err(format!("line {line} says the edition already"));
         }
         if self.open.is_some() || !self.text.lines.is_empty() {
-            return Err("`edition` stands before the first record, raw or repeat line".into());
+            return Err(
+                "`edition` stands before the first record, raw, repeat or group line".into(),
+            );
         }
         let edition = match words[1..] {
             [word] => Edition::named(word)?,
@@ -267,9 +329,10 @@ impl Reading {
         };
         let stop =
             stop.ok_or("after `=>` alone stands the reason: end, limit, torn, bad or long")?;
-        match self.open {
-            Some(_) => Err("the reason stands inside a repeat".into()),
-            None => {
+        match (&self.open, &self.groups[..]) {
+            (Some(_), _) => Err("the reason stands inside a repeat".into()),
+            (None, [_, ..]) => Err("the reason stands inside a group".into()),
+            (None, []) => {
                 self.text.reason = Some((number, stop));
                 Ok(())
             }
@@ -289,6 +352,7 @@ impl Reading {
             line: number,
             turns: *turns.as_ref().unwrap_or(&1) as usize,
             holds: false,
+            level: self.groups.len(),
         });
         match turns? {
             0 => Err("`repeat 0` plays nothing: take its lines out".into()),
@@ -299,11 +363,82 @@ impl Reading {
     fn end_repeat(&mut self, number: usize, words: &[&str]) -> Result<(), String> {
         let open = self.open.take().ok_or("no repeat is open")?;
         self.close(open.turns, Some((open.line, number)));
+        if let Some(group) = self.groups.get(open.level) {
+            let line = group.line;
+            self.groups.truncate(open.level);
+            return Err(format!("a group in this repeat is open since line {line}"));
+        }
         match words {
             [_] if !open.holds => Err("this repeat holds no record".into()),
             [_] => Ok(()),
             _ => Err("`end-repeat` takes nothing".into()),
         }
+    }
+
+    fn group(&mut self, number: usize, words: &[&str]) -> Result<(), String> {
+        self.hold();
+        let count = match words[1..] {
+            [count] => parse_number(count, 16),
+            _ => Err("`group` takes one number".into()),
+        };
+        let mut bytes = vec![0; GROUP_HEAD];
+        bytes[2..4].copy_from_slice(&GROUP.to_le_bytes());
+        bytes[4..].copy_from_slice(&(*count.as_ref().unwrap_or(&1) as u16).to_le_bytes());
+        let line = Line {
+            number,
+            bytes,
+            form: Form::Group,
+            expected: None,
+        };
+        let head = self.text.lines.len();
+        self.push(line);
+        self.groups.push(OpenGroup {
+            line: number,
+            head,
+            size: 0,
+        });
+        count.map(drop)
+    }
+
+    fn end_group(&mut self, words: &[&str]) -> Result<(), String> {
+        let level = self.groups.len();
+        if let Some(open) = self.open.as_ref().filter(|open| open.level == level) {
+            return Err(format!("a repeat is open since line {}", open.line));
+        }
+        let group = self.groups.pop().ok_or("no group is open")?;
+        self.count(group.size);
+        let size = GROUP_HEAD - 2 + group.size;
+        let length = u16::try_from(size).map_err(|_| {
+            let line = group.line;
+            format!("the group of line {line} has the length {size}, and two bytes can't say it")
+        })?;
+        self.text.lines[group.head].bytes[..2].copy_from_slice(&length.to_le_bytes());
+        match words {
+            [_] => Ok(()),
+            _ => Err("`end-group` takes nothing".into()),
+        }
+    }
+
+    /// Counts bytes for the group that they stand in, if they do: in each turn of a repeat in it.
+    fn count(&mut self, bytes: usize) {
+        let level = self.groups.len();
+        let open = self.open.as_ref().filter(|open| open.level == level);
+        let turns = open.map_or(1, |open| open.turns);
+        if let Some(group) = self.groups.last_mut() {
+            group.size += turns * bytes;
+        }
+    }
+
+    /// The open repeat holds a record or a group.
+    fn hold(&mut self) {
+        if let Some(open) = &mut self.open {
+            open.holds = true;
+        }
+    }
+
+    fn push(&mut self, line: Line) {
+        self.count(line.bytes.len());
+        self.text.lines.push(line);
     }
 
     /// The lines since the last block are one, if there are any.
@@ -328,21 +463,52 @@ impl Reading {
         words: &[&str],
         right: Option<&[&str]>,
     ) -> Result<(), String> {
-        if let Some(open) = &mut self.open {
-            open.holds = true;
-        }
+        self.hold();
+        let form = match words[0].eq_ignore_ascii_case("raw") {
+            true => Form::Raw,
+            false => Form::Record,
+        };
         let line = Line {
             number,
             bytes: record(words, self.text.edition)?,
-            raw: words[0].eq_ignore_ascii_case("raw"),
-            expected: right.map(answer).transpose()?,
+            form,
+            expected: right.map(expected).transpose()?,
         };
-        self.text.lines.push(line);
+        self.push(line);
         Ok(())
     }
 }
 
-/// An expectation, as it is printed: the answer's number, and the value in eight hex digits, which
+/// What a line expects: answers with commas between them, each with how many times it comes where
+/// that is said. It comes once where it isn't, and the last of them then as often as there are records.
+fn expected(words: &[&str]) -> Result<Expected, String> {
+    let joined = words.join(" ");
+    let (mut stretches, mut open) = (Vec::new(), true);
+    for part in joined.split(',') {
+        let mut words: Vec<&str> = part.split_whitespace().collect();
+        let times = words.last().and_then(|word| word.strip_prefix('x'));
+        open = times.is_none();
+        let times = match times {
+            Some(times) => {
+                words.pop();
+                let number = times
+                    .parse()
+                    .ok()
+                    .filter(|n: &usize| n.to_string() == times);
+                let number = number.filter(|n| (1..=RECORD_LIMIT).contains(n));
+                number.ok_or_else(|| {
+                    let times = quoted(times);
+                    format!("{times} times: write x1 to x{RECORD_LIMIT}, in decimal")
+                })?
+            }
+            None => 1,
+        };
+        stretches.push((answer(&words)?, times));
+    }
+    Ok(Expected { stretches, open })
+}
+
+/// An answer, as it is printed: the answer's number, and the value in eight hex digits, which
 /// may be left out where it is zero.
 fn answer(words: &[&str]) -> Result<Answer, String> {
     let (number, value) = match words {

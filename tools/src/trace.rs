@@ -18,7 +18,7 @@ use output::{tell, Output};
 use std::collections::BTreeMap;
 use std::ffi::OsString;
 use std::process::exit;
-use text::{ending, Place, Problem, Text};
+use text::{ending, Answer, Place, Problem, Text};
 
 const HELP: &str = include_str!("trace.help");
 
@@ -74,28 +74,39 @@ fn unplayed(text: &Text) -> Vec<Problem> {
 }
 
 fn played(text: &Text, bytes: &[u8], places: &[Place]) -> (String, Stop, Vec<Problem>) {
-    let (ends, stop) = framing(bytes);
-    let mut out = String::new();
+    let framing = framing(bytes);
+    // In the order in which the records are played, which groups make another than that of the lines.
+    let mut answers: Vec<Option<Answer>> = vec![None; framing.records.len()];
     // By line, since a line of a repeat is at fault once and not in each turn.
     let mut problems = BTreeMap::new();
-    for (place, records) in places.iter().zip(ending(places, &ends)) {
+    for (place, records) in places.iter().zip(ending(places, &framing.records)) {
         let line = &text.lines[place.line];
-        match (line.expected, records.is_empty()) {
-            (Some((answer, value)), false) => {
-                out.push_str(&format!("{answer} {value:08x}\n").repeat(records.len()));
+        match (&line.expected, records.len()) {
+            (Some(_), 0) => {
+                problems.insert(line.number, UNPLAYED.into());
             }
-            (Some(_), true) => {
-                problems.insert(line.number, UNPLAYED);
+            (Some(expected), count) if !expected.is_count(count) => {
+                let wanted = expected.count();
+                let what = format!("records that end here: {count}, expected {wanted}");
+                problems.insert(line.number, what);
             }
-            (None, false) => {
-                problems.insert(line.number, "a record ends here, and nothing is expected");
+            (Some(expected), _) => {
+                for (record, answer) in records.into_iter().zip(expected.answers()) {
+                    answers[record] = Some(answer);
+                }
             }
-            (None, true) => (),
+            (None, 0) => (),
+            (None, _) => {
+                let what = "a record ends here, and nothing is expected".into();
+                problems.insert(line.number, what);
+            }
         }
     }
+    let answers = answers.into_iter().flatten();
+    let out = answers.map(|(answer, value)| format!("{answer} {value:08x}\n"));
     let problems = problems.into_iter();
-    let problems = problems.map(|(line, what)| Problem::at(line, what));
-    (out, stop, problems.collect())
+    let problems = problems.map(|(line, what): (usize, String)| Problem::at(line, what));
+    (out.collect(), framing.stop, problems.collect())
 }
 
 /// What of a file goes to the output.

@@ -105,6 +105,8 @@ fn binary_fault(name: &str, bytes: &[u8], (edition, program): (&str, &str)) -> O
     let proved = run(program, &[], bytes);
     match lines.status.code() {
         Some(0) if lines.stdout == proved.stdout => None,
+        // Taken for a text without lines.
+        Some(0) if bytes.iter().all(u8::is_ascii_whitespace) => None,
         // Taken for a text with an error: the program has no record of it either.
         Some(2) if !proved.stdout.contains(&b' ') => None,
         _ => Some("its lines are not those of the proved program".into()),
@@ -119,6 +121,12 @@ fn random_bytes(random: &mut Random, traces: &[Vec<u8>]) -> Vec<u8> {
     // Pieces of true traces, so that records are played too.
     let mut bytes = random.one_of(traces).clone();
     bytes.truncate(4_000);
+    if random.below(3) == 0 {
+        bytes = in_groups(random, bytes);
+        if random.below(2) == 0 {
+            return bytes;
+        }
+    }
     for _ in 0..random.below(4) {
         if !bytes.is_empty() {
             let at = random.below(bytes.len());
@@ -126,6 +134,33 @@ fn random_bytes(random: &mut Random, traces: &[Vec<u8>]) -> Vec<u8> {
         }
     }
     bytes.truncate(random.below(bytes.len() + 1));
+    bytes
+}
+
+/// The bytes in groups, one in the other, with something before and behind them.
+fn in_groups(random: &mut Random, mut bytes: Vec<u8>) -> Vec<u8> {
+    let wake = [2, 0, 10, 0];
+    for _ in 0..1 + random.below(9) {
+        let count = match random.below(30) {
+            0 => 0,
+            _ => *random.one_of(&[1, 1, 2, 3, 10, 300, 65_535]),
+        };
+        bytes = grouped(count, &bytes);
+        if random.below(3) == 0 {
+            bytes.extend(wake);
+        }
+    }
+    bytes.splice(0..0, wake);
+    bytes.extend(*random.one_of(&[&[][..], &[2, 0, 9, 0], &[2]]));
+    bytes
+}
+
+/// A group with this list.
+fn grouped(count: u16, list: &[u8]) -> Vec<u8> {
+    let mut bytes = (list.len() as u16 + 4).to_le_bytes().to_vec();
+    bytes.extend([16, 0]);
+    bytes.extend(count.to_le_bytes());
+    bytes.extend(list);
     bytes
 }
 
@@ -160,6 +195,46 @@ fn expects(text: &[u8]) -> bool {
     text.split(|byte| *byte == b'\n').any(expecting)
 }
 
+/// Another answer or reason that could stand in the place of this one.
+fn other(part: &str) -> String {
+    let words: Vec<&str> = part.split_whitespace().collect();
+    match words[..] {
+        ["end"] => "bad".into(),
+        ["limit" | "torn" | "bad" | "long"] => "end".into(),
+        ["6", value] => format!(
+            "6 {}{}",
+            if value.starts_with('0') { '1' } else { '0' },
+            &value[1..]
+        ),
+        ["12"] => "11".into(),
+        [number] => (number.parse::<u32>().expect("an answer") + 1).to_string(),
+        _ => panic!("no answer: {part}"),
+    }
+}
+
+/// What stands behind `=>` with one answer changed, or how many times it comes.
+fn others(right: &str) -> Vec<String> {
+    let parts: Vec<&str> = right.split(',').map(str::trim).collect();
+    let mut all = Vec::new();
+    for (index, part) in parts.iter().enumerate() {
+        let with = |part: String| {
+            let mut parts: Vec<String> = parts.iter().map(|part| part.to_string()).collect();
+            parts[index] = part;
+            parts.join(", ")
+        };
+        match part.rsplit_once(" x") {
+            Some((answer, times)) => {
+                let times: usize = times.trim().parse().expect("a number of times");
+                let less = if times < 2 { 2 } else { times - 1 };
+                all.push(with(format!("{} x{times}", other(answer))));
+                all.push(with(format!("{answer} x{less}")));
+            }
+            None => all.push(with(other(part))),
+        }
+    }
+    all
+}
+
 /// The text with one expectation changed to another that could stand there, for each that it has.
 fn spoilt(text: &str) -> Vec<(usize, String)> {
     let lines: Vec<&str> = text.lines().collect();
@@ -169,23 +244,12 @@ fn spoilt(text: &str) -> Vec<(usize, String)> {
         let Some((left, right)) = code.split_once("=>") else {
             continue;
         };
-        let words: Vec<&str> = right.split_whitespace().collect();
-        let other = match words[..] {
-            ["end"] => "bad".into(),
-            ["limit" | "torn" | "bad" | "long"] => "end".into(),
-            ["6", value] => format!(
-                "6 {}{}",
-                if value.starts_with('0') { '1' } else { '0' },
-                &value[1..]
-            ),
-            ["12"] => "11".into(),
-            [number] => (number.parse::<u32>().expect("an answer") + 1).to_string(),
-            _ => panic!("line {}: {right}", index + 1),
-        };
-        let mut changed = lines.clone();
-        let line = format!("{left}=> {other}");
-        changed[index] = &line;
-        all.push((index + 1, changed.join("\n")));
+        for other in others(right) {
+            let mut changed = lines.clone();
+            let line = format!("{left}=> {other}");
+            changed[index] = &line;
+            all.push((index + 1, changed.join("\n")));
+        }
     }
     all
 }
