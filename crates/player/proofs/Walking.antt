@@ -9,6 +9,7 @@ use borrow.Author.Tests.{ltb-true, ltb-false, le-ltb, lt-ltb, leb-true, leb-fals
 use lib.Dec.{leb, ltb}
 use lib.ListN.{length, length-append}
 use Rattle.steps.specs.declared.Step.{Step}
+use Rattle.machine.specs.declared.Machine.{Machine}
 use Rattle.trace.specs.declared.Found.{Found}
 use Rattle.trace.specs.declared.Found.the-variants as found
 use Rattle.trace.specs.Trace.{part, ended, foundAt}
@@ -19,7 +20,7 @@ use Rattle.scripts.proofs.Reading.{found-past, rest-none, rest-found, within-al
 use Rattle.scripts.proofs.Limits.{ends, limited-end, limited-stop, limited-none}
 use Rattle.player.specs.declared.Stop.{Stop}
 use Rattle.player.specs.declared.Stop.the-variants.{Group, Leave}
-use Rattle.player.specs.Walks.{State, after, Stretch, stopped, over, placeAt, leftAt, stretchBy, stretchFrom, Stretches, Goes, times, admitted, Fit}
+use Rattle.player.specs.Walks.{State, state, after, Stretch, stopped, over, placeAt, leftAt, stretchBy, stretchFrom, Stretches, Goes, times, admitted, Fit}
 use Rattle.player.proofs.States.{after-count}
 use Rattle.player.proofs.Going.{goes-room, goes-stops, go-on, after-all, go-past, go-cut}
 
@@ -232,7 +233,11 @@ times-ends : (n : ℕ) (h : Script) → isEnd (h .reason) ≡ true → times n h
 times-ends n h e = ap (λ (q : Reason). record { steps = repeated n (h .steps); reason = q }) (end-is _ e)
 
 module _ (depth : ℕ) (l : List ℕ) (s o : State) (r : Reason) (at left : ℕ) (w : Walking o r depth l s at left)
-    (s′ : State) (k : ℕ) (stop : Stop) (g : Stretches l at left s s′ k stop) where
+    (m : Machine) (anew : m ≡ s .machine) (s′ : State) (k : ℕ) (stop : Stop)
+    (ran-anew : Stretches l at left (state m (s .memory) (s .count) (s .events)) s′ k stop) where
+  g : Stretches l at left s s′ k stop
+  g = rw anew at ran-anew
+
   abbrev run : List Step
   run = stretchFrom (recordLimit - s .count) l at left .steps
 
@@ -322,12 +327,13 @@ module _ (depth : ℕ) (l : List ℕ) (s o : State) (r : Reason) (at left : ℕ)
           once = λ j. absurd (omega (arith, fit .most));
         }
 
-        module _ (s″ : State) (q : Reason) (goes : Goes s′ (times count inner) s″ q) where
+        module _ (m′ : Machine) (anew′ : m′ ≡ s′ .machine) (s″ : State) (q : Reason)
+            (goes : Goes (state m′ (s′ .memory) (s′ .count) (s′ .events)) (times count inner) s″ q) where
           abbrev written : List Step
           written = repeated count (inner .steps)
 
           goes-ends : Goes s′ (ends written) s″ q
-          goes-ends = rw (times-ends count inner sound) at goes
+          goes-ends = rw (anew′, times-ends count inner sound) at goes
 
           group-is : found-group ≡ joins written (round depth l next)
           group-is = rw sound

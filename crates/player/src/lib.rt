@@ -136,7 +136,8 @@ fn is_admitted(list: &[u8], depth: usize) -> bool
 }
 
 // Runs a list of records as often as its rounds say, or up to the limit. Each turn of the loop runs a sound group, which has at least one
-// record, or leaves: so the limit bounds the work, however many records the groups have in all.
+// record, or leaves: so the limit bounds the work, however many records the groups have in all. The machine is lent on field by field, since
+// it would be copied as a whole by a function from elsewhere.
 fn walk(
     list: &[u8],
     depth: usize,
@@ -158,7 +159,16 @@ fn walk(
     let mut place: usize = 0;
     let mut left = rounds;
     let reason = loop {
-        let ran = records(list, place, left, machine, count, main, management, events);
+        let ran = records(
+            list,
+            place,
+            left,
+            machine.anew(),
+            count,
+            main,
+            management,
+            events,
+        );
         let stop = ran.stop;
         machine = ran.machine;
         count = ran.count;
@@ -176,7 +186,7 @@ fn walk(
                     &list[start..next],
                     depth - 1,
                     rounds,
-                    machine,
+                    machine.anew(),
                     count,
                     main,
                     management,
