@@ -21,11 +21,11 @@ use Rattle.steps.specs.Steps.{isWidth, malformed}
 use Rattle.refusals.specs.declared.Verdict.the-variants.{Allowed}
 use Rattle.refusals.specs.Refusals.{malformedOn, programWhileHalted, firstRefusal}
 use Rattle.refusals.proofs.Laws.{taken-allowed}
-use Rattle.config.specs.declared.Edition.the-variants.{Cx486}
-use Rattle.config.specs.declared.Settings.{Settings}
-use Rattle.config.specs.Settings.{regionIn, headerFits, enabled, headerPlace, lockedBits, keptBits, byteOf, withByte, merged, written}
+use Rattle.settings.specs.declared.Edition.the-variants.{Cx486}
+use Rattle.settings.specs.declared.Settings.{Settings}
+use Rattle.settings.specs.Settings.{regionIn, headerFits, enabled, headerPlace, lockedBits, keptBits, byteOf, withByte, merged, written}
+use Rattle.settings.proofs.Place.{fits-always}
 use Rattle.config.specs.Ports.{indexed, answering, alwaysInternal, internal, portWrite}
-use Rattle.config.proofs.Place.{fits-always}
 use Rattle.header.specs.declared.Level.{Level}
 use Rattle.header.specs.declared.Level.the-variants.{Zero}
 use Rattle.header.specs.declared.Registers.{Registers}

@@ -14,8 +14,8 @@ use Rattle.steps.specs.declared.Interruption.the-variants.{None, Output}
 use Rattle.steps.specs.declared.Step.the-variants.{PortWrite, Boundary}
 use Rattle.refusals.specs.declared.Verdict.the-variants.{Allowed}
 use Rattle.refusals.specs.Refusals.{wrongSizes, firstRefusal}
-use Rattle.config.specs.declared.Edition.the-variants.{Cx486}
-use Rattle.config.specs.Settings.{useSmi, smac, smiLock, regionIn}
+use Rattle.settings.specs.declared.Edition.the-variants.{Cx486}
+use Rattle.settings.specs.Settings.{useSmi, smac, smiLock, regionIn}
 use Rattle.header.specs.declared.Level.{Level}
 use Rattle.header.specs.declared.Level.the-variants.{Zero, Three}
 use Rattle.header.specs.declared.Registers.{Registers}

@@ -1,4 +1,1 @@
-pub mod Settings
 pub mod Ports
-pub mod Locked
-pub mod Headers

@@ -4,10 +4,10 @@ use mathlib.Core.Bool.{Bool, true, false, cond, _&&_, _||_}
 use lib.Dec.{eqb, leb}
 use Rattle.steps.specs.declared.Answer.{Answer}
 use Rattle.steps.specs.declared.Answer.the-variants.{Done, Value, External}
-use Rattle.config.specs.declared.Settings.{Settings}
+use Rattle.settings.specs.declared.Settings.{Settings}
 use Rattle.config.specs.declared.Config.{Config}
 use Rattle.config.specs.declared.Accessed.{Accessed}
-use Rattle.config.specs.Settings.{isMii, mapen, byteOf, written}
+use Rattle.settings.specs.Settings.{isMii, mapen, byteOf, written}
 
 -- the indexes that the core always answers itself: C0h to CFh, FEh and FFh
 unfoldable pub alwaysInternal : ℕ → Bool

@@ -3,7 +3,7 @@ use mathlib.Core.Path.{_≡_}
 use mathlib.Core.List.{List}
 use Prim.Native.Nat.{ℕ}
 use Rattle.memory.specs.Memory.{Memories}
-use Rattle.config.specs.declared.Edition.{Edition}
+use Rattle.settings.specs.declared.Edition.{Edition}
 use Rattle.machine.specs.Machines.{resetMachine}
 use Rattle.lines.specs.declared.Reason.{Reason}
 use Rattle.lines.specs.declared.Reason.the-variants.{End, Limit, Torn, Bad}

@@ -1,9 +1,9 @@
 // The player for Rust and C to call: numbers and slices only.
-use config::Edition;
 use lines::Reason;
 use machine::Machine;
+use settings::Edition;
 ghost use mathlib.Core.Path.{_≡_};
-ghost use Rattle.config.specs.declared.Edition.the-variants.{Cx486, Mii};
+ghost use Rattle.settings.specs.declared.Edition.the-variants.{Cx486, Mii};
 ghost use Rattle.memory.specs.Memory.{memories};
 ghost use Rattle.export.specs.Export.{reasonNumber, Replays};
 

@@ -5,12 +5,12 @@ use Prim.Native.Nat.{ℕ}
 use lib.Dec.{eqb}
 use Rattle.steps.specs.declared.Answer.{Answer}
 use Rattle.steps.specs.Answers.{numberOf, refusal}
+use Rattle.settings.specs.Settings.{smiLock, SameLocked, withByte, written}
+use Rattle.settings.specs.Locked.{SettingsFit}
+use Rattle.settings.proofs.Lock.{locked-refl, written-locked, written-fits}
 use Rattle.config.specs.declared.Config.{Config}
 use Rattle.config.specs.declared.Accessed.{Accessed}
-use Rattle.config.specs.Settings.{smiLock, SameLocked, withByte, written}
-use Rattle.config.specs.Locked.{SettingsFit}
 use Rattle.config.specs.Ports.{answering, indexed, internal, portRead, portWrite}
-use Rattle.config.proofs.Lock.{locked-refl, written-locked, written-fits}
 use Rattle.machine.specs.declared.Machine.{Machine}
 use Rattle.machine.specs.declared.Stepped.{Stepped}
 use Rattle.machine.specs.Service.{passed}

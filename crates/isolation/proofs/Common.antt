@@ -13,11 +13,11 @@ use Rattle.steps.specs.declared.Interruption.{Interruption}
 use Rattle.refusals.specs.Refusals.{firstRefusal}
 use Rattle.refusals.specs.declared.Verdict.{Verdict}
 use Rattle.refusals.specs.declared.Verdict.the-variants.{Refused, Allowed}
-use Rattle.config.specs.declared.Edition.the-variants.{Cx486, Mii}
-use Rattle.config.specs.declared.Settings.{Settings}
+use Rattle.settings.specs.declared.Edition.the-variants.{Cx486, Mii}
+use Rattle.settings.specs.declared.Settings.{Settings}
+use Rattle.settings.specs.Settings.{mapen, smhr, regionIn, windowOf, headerEnd, headerFits, headerPlace, enabled, opcodesAllowed, byteOf, withByte, laterBits, lockedBits, keptBits, written, withSmhr}
 use Rattle.config.specs.declared.Config.{Config}
 use Rattle.config.specs.declared.Accessed.{Accessed}
-use Rattle.config.specs.Settings.{mapen, smhr, regionIn, windowOf, headerEnd, headerFits, headerPlace, enabled, opcodesAllowed, byteOf, withByte, laterBits, lockedBits, keptBits, written, withSmhr}
 use Rattle.config.specs.Ports.{alwaysInternal, internal, answering, indexed, portRead, portWrite}
 use Rattle.header.specs.declared.Saved.{Saved}
 use Rattle.segments.specs.declared.SegmentName.{SegmentName}

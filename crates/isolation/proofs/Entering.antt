@@ -11,8 +11,8 @@ use Rattle.memory.specs.Memory.{Memories}
 use Rattle.steps.specs.declared.Step.{Step}
 use Rattle.steps.specs.Answers.{numberOf}
 use Rattle.refusals.proofs.Laws.{sizes}
-use Rattle.config.specs.Settings.{headerPlace}
-use Rattle.config.proofs.Place.{place-room}
+use Rattle.settings.specs.Settings.{headerPlace}
+use Rattle.settings.proofs.Place.{place-room}
 use Rattle.header.specs.declared.Saved.{Saved}
 use Rattle.header.specs.Header.{headerLength, contents, upward, headerBytes, headed}
 use Rattle.header.proofs.ReadBack.{length-bytes}

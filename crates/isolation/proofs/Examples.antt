@@ -19,9 +19,9 @@ use Rattle.steps.specs.Steps.{isWidth, kindOf}
 use Rattle.refusals.specs.declared.Verdict.the-variants.{Allowed}
 use Rattle.refusals.specs.Refusals.{wrongSizes, malformedOn, programWhileHalted, firstRefusal}
 use Rattle.refusals.proofs.Laws.{taken-allowed}
-use Rattle.config.specs.declared.Edition.{Edition}
-use Rattle.config.specs.declared.Edition.the-variants.{Cx486, Mii}
-use Rattle.config.specs.Settings.{windowOf, headerEnd, headerFits, headerPlace, enabled, opcodesAllowed, withSmhr}
+use Rattle.settings.specs.declared.Edition.{Edition}
+use Rattle.settings.specs.declared.Edition.the-variants.{Cx486, Mii}
+use Rattle.settings.specs.Settings.{windowOf, headerEnd, headerFits, headerPlace, enabled, opcodesAllowed, withSmhr}
 use Rattle.config.specs.Ports.{internal, alwaysInternal}
 use Rattle.header.specs.Header.{trapOf}
 use Rattle.opcodes.specs.declared.Operation.the-variants.{Smint}

@@ -11,7 +11,7 @@ use Rattle.steps.specs.Steps.{malformed, otherThanNone}
 use Rattle.steps.specs.Widths.{StepFits}
 use Rattle.refusals.specs.Refusals.{malformedOn}
 use Rattle.refusals.proofs.Laws.{allowed-taken}
-use Rattle.config.specs.Settings.{headerPlace}
+use Rattle.settings.specs.Settings.{headerPlace}
 use Rattle.header.specs.Header.{trapOf, Word, wordIn, contents}
 use Rattle.header.specs.Header.Word.{CurrentIp, NextIp}
 use Rattle.header.proofs.ReadBack.{words-back}

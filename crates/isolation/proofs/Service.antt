@@ -16,9 +16,9 @@ use Rattle.steps.specs.Widths.{TransferFits, InterruptionFits, StepFits}
 use Rattle.refusals.specs.declared.Verdict.the-variants.{Allowed}
 use Rattle.refusals.specs.Refusals.{wrongSizes, malformedOn, programWhileHalted, firstRefusal}
 use Rattle.refusals.proofs.Laws.{taken-allowed, by-verdict}
-use Rattle.config.specs.declared.Edition.{Edition}
-use Rattle.config.specs.declared.Edition.the-variants.{Cx486, Mii}
-use Rattle.config.specs.Settings.{headerFits, headerPlace, opcodesAllowed}
+use Rattle.settings.specs.declared.Edition.{Edition}
+use Rattle.settings.specs.declared.Edition.the-variants.{Cx486, Mii}
+use Rattle.settings.specs.Settings.{headerFits, headerPlace, opcodesAllowed}
 use Rattle.header.specs.Header.{sizeBits, portSize, cut, trapOf, headerBytes, headed}
 use Rattle.header.specs.Entry.{entryRegisters}
 use Rattle.header.specs.ReadBack.{SavedFits}

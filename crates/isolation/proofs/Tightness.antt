@@ -15,7 +15,7 @@ use Rattle.steps.specs.declared.Answer.the-variants.{Done, WrongSize, Malformed
 use Rattle.steps.specs.declared.Step.{Step}
 use Rattle.steps.specs.declared.Step.the-variants.{Reset}
 use Rattle.steps.specs.Answers.{numberOf}
-use Rattle.config.specs.Settings.{headerPlace}
+use Rattle.settings.specs.Settings.{headerPlace}
 use Rattle.header.specs.Header.{headerLength, headed, headerBytes}
 use Rattle.header.specs.Entry.{entryRegisters}
 use Rattle.machine.specs.declared.Machine.{Machine}

@@ -8,9 +8,9 @@ use Rattle.memory.specs.Memory.{Memories}
 use Rattle.steps.specs.declared.Step.{Step}
 use Rattle.steps.specs.declared.Step.the-variants.{Reset, Opcode}
 use Rattle.steps.specs.Steps.{byStep}
-use Rattle.config.specs.declared.Edition.the-variants.{Cx486, Mii}
-use Rattle.config.specs.declared.Settings.{Settings}
-use Rattle.config.specs.Settings.{smiLock, mapen, regionIn, smhr, withEdition, SameLocked}
+use Rattle.settings.specs.declared.Edition.the-variants.{Cx486, Mii}
+use Rattle.settings.specs.declared.Settings.{Settings}
+use Rattle.settings.specs.Settings.{smiLock, mapen, regionIn, smhr, withEdition, SameLocked}
 use Rattle.header.specs.Header.{headerLength}
 use Rattle.machine.specs.declared.Machine.{Machine}
 use Rattle.machine.specs.Machines.{settingsOf, editionOf, withSettings, resetMachine}

@@ -14,12 +14,12 @@ use Rattle.steps.specs.Answers.{refusal}
 use Rattle.steps.specs.Widths.{StepFits}
 use Rattle.refusals.specs.declared.Verdict.the-variants.{Allowed}
 use Rattle.refusals.specs.Refusals.{firstRefusal}
-use Rattle.config.specs.declared.Edition.{Edition}
-use Rattle.config.specs.declared.Edition.the-variants.{Cx486, Mii}
+use Rattle.settings.specs.declared.Edition.{Edition}
+use Rattle.settings.specs.declared.Edition.the-variants.{Cx486, Mii}
 use Rattle.region.specs.Region.{sizeOf}
-use Rattle.config.specs.Settings.{smiLock, mapen, regionIn, smhr, headerPlace, enabled, withSmhr, withEdition}
+use Rattle.settings.specs.Settings.{smiLock, mapen, regionIn, smhr, headerPlace, enabled, withSmhr, withEdition}
+use Rattle.settings.specs.declared.Settings.{Settings}
 use Rattle.config.specs.Ports.{internal}
-use Rattle.config.specs.declared.Settings.{Settings}
 use Rattle.opcodes.specs.Decode.{smintOpcode}
 use Rattle.machine.specs.declared.Machine.{Machine}
 use Rattle.segments.specs.Segments.{resetSegments}

@@ -17,7 +17,7 @@ use Rattle.refusals.specs.declared.Verdict.the-variants.{Allowed}
 use Rattle.refusals.specs.Refusals.{firstRefusal}
 use Rattle.opcodes.specs.declared.Operation.the-variants.{Smint, Rsm}
 use Rattle.opcodes.specs.Decode.{operationOf}
-use Rattle.config.specs.Settings.{regionIn, enabled, headerPlace}
+use Rattle.settings.specs.Settings.{regionIn, enabled, headerPlace}
 use Rattle.header.specs.declared.Saved.{Saved}
 use Rattle.header.specs.declared.Level.the-variants.{Zero}
 use Rattle.header.specs.Header.{trapOf, headerLength, headerBytes, wordIn, resumed, withEip}

@@ -15,8 +15,8 @@ use Rattle.steps.specs.declared.Step.the-variants.{Reset, Boundary}
 use Rattle.steps.specs.declared.Interruption.{Interruption}
 use Rattle.steps.specs.Answers.{numberOf}
 use Rattle.refusals.specs.Refusals.{malformedOn}
-use Rattle.config.specs.Settings.{headerPlace}
-use Rattle.config.specs.Locked.{Fixed}
+use Rattle.settings.specs.Settings.{headerPlace}
+use Rattle.settings.specs.Locked.{Fixed}
 use Rattle.header.specs.Header.{headerBytes, wordIn, withEip}
 use Rattle.header.specs.Header.Word.{CurrentIp, NextIp}
 use Rattle.machine.specs.declared.Machine.{Machine}

@@ -11,7 +11,7 @@ use Rattle.steps.specs.declared.Step.{Step}
 use Rattle.refusals.specs.declared.Verdict.{Verdict}
 use Rattle.refusals.specs.declared.Verdict.the-variants.{Refused, Allowed}
 use Rattle.refusals.specs.Refusals.{firstRefusal}
-use Rattle.config.specs.declared.Settings.{Settings}
+use Rattle.settings.specs.declared.Settings.{Settings}
 use Rattle.opcodes.specs.declared.Operation.{Operation}
 use Rattle.opcodes.specs.declared.Operation.the-variants.{Undefined}
 use Rattle.opcodes.specs.Decode.{operationOf, operandSize, allowed}

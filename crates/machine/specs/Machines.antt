@@ -5,8 +5,8 @@ use mathlib.Core.List.{[], _∷_}
 use Rattle.fields.specs.Fields.{numberBy, number}
 use Rattle.memory.specs.declared.Segment.{Segment}
 use Rattle.memory.specs.Memory.{segment}
-use Rattle.config.specs.declared.Edition.{Edition}
-use Rattle.config.specs.declared.Settings.{Settings}
+use Rattle.settings.specs.declared.Edition.{Edition}
+use Rattle.settings.specs.declared.Settings.{Settings}
 use Rattle.config.specs.declared.Config.{Config}
 use Rattle.header.specs.declared.Registers.{Registers}
 use Rattle.header.specs.declared.Level.the-variants.{Zero}

@@ -5,7 +5,7 @@ use mathlib.Core.List.{List}
 use Rattle.memory.specs.Memory.{Memories, memories}
 use Rattle.steps.specs.declared.Interruption.{Interruption}
 use Rattle.steps.specs.declared.Answer.the-variants.{Nothing, Ignored, Latched, Entered, Resumed}
-use Rattle.config.specs.Settings.{regionIn, enabled, headerPlace}
+use Rattle.settings.specs.Settings.{regionIn, enabled, headerPlace}
 use Rattle.header.specs.declared.Saved.{Saved}
 use Rattle.header.specs.Header.{boundarySaved, smintSaved, headed, resumed}
 use Rattle.header.specs.Entry.{entryRegisters}

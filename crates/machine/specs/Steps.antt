@@ -10,7 +10,7 @@ use Rattle.refusals.specs.Refusals.{firstRefusal}
 use Rattle.steps.specs.declared.Answer.the-variants.{Done, Malformed, Invalid, Absent}
 use Rattle.steps.specs.declared.Step.{Step}
 use Rattle.steps.specs.declared.Step.the-variants.{Reset, Registers, Read, Write, PortRead, PortWrite, Opcode, Boundary, MalformedBoundary, Halt, Wake}
-use Rattle.config.specs.Settings.{windowOf, opcodesAllowed, smhr, withSmhr}
+use Rattle.settings.specs.Settings.{windowOf, opcodesAllowed, smhr, withSmhr}
 use Rattle.config.specs.Ports.{portRead, portWrite}
 use Rattle.config.specs.declared.Accessed.{Accessed}
 use Rattle.header.specs.Header.{levelNumber, levelOf, withEip}

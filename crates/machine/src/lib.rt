@@ -11,8 +11,6 @@ ghost use Rattle.machine.specs.Service.{enteredMachine, entry, entryAtBo
 ghost use Rattle.machine.specs.Steps.{window, resetStep, registersStep, readStep, writeStep, portStep, portReadStep, portWriteStep, haltStep, wakeStep, permitted, valid, operationOn, advanced, saved, restored, smhrStored, smhrLoaded, operated, opcodeStep, performed, stepped};
 use config::Accessed;
 use config::Config;
-use config::Edition;
-use config::Settings;
 use header::Level;
 use header::Registers;
 use header::Saved;
@@ -22,6 +20,8 @@ use refusals::Verdict;
 use region::Region;
 use segments::SegmentName;
 use segments::Segments;
+use settings::Edition;
+use settings::Settings;
 use steps::Answer;
 use steps::Interruption;
 use steps::Step;

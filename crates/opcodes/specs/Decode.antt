@@ -2,9 +2,9 @@
 use Prim.Native.Nat.{ℕ, _/_, _%_}
 use mathlib.Core.Bool.{Bool, true, false, cond, not, _&&_, _||_}
 use lib.Dec.{eqb, ltb}
-use Rattle.config.specs.declared.Edition.{Edition}
-use Rattle.config.specs.declared.Settings.{Settings}
-use Rattle.config.specs.Settings.{isMii, smiLock, headerFits}
+use Rattle.settings.specs.declared.Edition.{Edition}
+use Rattle.settings.specs.declared.Settings.{Settings}
+use Rattle.settings.specs.Settings.{isMii, smiLock, headerFits}
 use Rattle.segments.specs.declared.SegmentName.{SegmentName}
 use Rattle.segments.specs.declared.SegmentName.the-variants.{Es, Cs, Ss, Ds, Fs, Gs, Ldtr, Tr}
 use Rattle.opcodes.specs.declared.Operation.{Operation}

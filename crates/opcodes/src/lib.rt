@@ -1,8 +1,8 @@
 ghost use mathlib.Core.Path.{_≡_};
 ghost use Rattle.opcodes.specs.Decode.{dataSegment, svdc, rsdc, plain, later, grouped, smintOpcode, operationOf, operandSize, allowed};
-use config::Edition;
-use config::Settings;
 use segments::SegmentName;
+use settings::Edition;
+use settings::Settings;
 
 // What an opcode asks for.
 pub enum Operation {

@@ -9,7 +9,7 @@ use lib.ListN.{length, take, length-map}
 use Rattle.fields.proofs.Storing.{stored-front}
 use Rattle.memory.specs.Memory.{Memories}
 use Rattle.events.specs.Events.{noted}
-use Rattle.config.specs.declared.Edition.{Edition}
+use Rattle.settings.specs.declared.Edition.{Edition}
 use Rattle.machine.specs.declared.Machine.{Machine}
 use Rattle.machine.specs.Machines.{resetMachine}
 use Rattle.runs.proofs.Turns.{one-event-each}

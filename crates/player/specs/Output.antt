@@ -5,7 +5,7 @@ use Prim.Native.Nat.{ℕ}
 use lib.Dec.{leb}
 use lib.ListN.{length, replicate}
 use Rattle.memory.specs.Memory.{Memories, memories}
-use Rattle.config.specs.declared.Edition.{Edition}
+use Rattle.settings.specs.declared.Edition.{Edition}
 use Rattle.machine.specs.declared.Machine.{Machine}
 use Rattle.machine.specs.Machines.{resetMachine}
 use Rattle.runs.specs.Runs.{answersOf}

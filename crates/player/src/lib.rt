@@ -1,6 +1,6 @@
-use config::Edition;
 use lines::Reason;
 use machine::Machine;
+use settings::Edition;
 use trace::Found;
 ghost use mathlib.Core.Path.{_≡_};
 ghost use Prim.Native.Nat.{_<_, _≤_};

@@ -3,7 +3,7 @@
 use Prim.Native.Nat.{ℕ, _≤_, _<_}
 use mathlib.Core.List.{List}
 use lib.ListN.{length, getD}
-use Rattle.config.specs.declared.Edition.{Edition}
+use Rattle.settings.specs.declared.Edition.{Edition}
 use Rattle.lines.specs.Stores.{Printed}
 use Rattle.player.specs.Output.{outputOf}
 

@@ -1,6 +1,6 @@
 // What the programs of both editions do: each is a main that names its edition.
-use config::Edition;
 use libc::STDOUT_FILENO;
+use settings::Edition;
 ghost use Prim.Native.Nat.{_≤_};
 ghost use lib.ListN.{length};
 ghost use Rattle.programs.specs.Programs.{Shows, Shown};

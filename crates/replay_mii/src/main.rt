@@ -1,6 +1,6 @@
 // Plays the trace on standard input in the MII edition, and prints a line for each record and then why it stopped.
-use config::Edition;
 use libc::STDIN_FILENO;
+use settings::Edition;
 
 fn main() {
     let mut out = [0u8; 130006];

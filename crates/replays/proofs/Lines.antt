@@ -15,7 +15,7 @@ use Rattle.steps.specs.Answers.{numberOf, valueOf}
 use Rattle.trace.specs.Trace.{recordOf, recordBy, groupOf, frameAt, framed, foundAt}
 use Rattle.lines.specs.declared.Reason.{Reason}
 use Rattle.lines.specs.Lines.{lineOf, linesOf, wordOf, textOf}
-use Rattle.config.specs.declared.Edition.the-variants.{Mii}
+use Rattle.settings.specs.declared.Edition.the-variants.{Mii}
 use Rattle.isolation.specs.Isolation.{throughEntry}
 use Rattle.isolation.proofs.Isolation.{same-answers}
 use Rattle.isolation.proofs.Tightness.{no-reset-asked}

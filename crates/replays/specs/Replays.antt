@@ -14,7 +14,7 @@ use Rattle.scripts.specs.Scripts.{scriptOf}
 use Rattle.player.specs.Player.{playing}
 use Rattle.player.specs.Output.{replayText}
 use Rattle.isolation.specs.Isolation.{Start, NoReset, throughEntry}
-use Rattle.config.specs.declared.Edition.the-variants.{Mii}
+use Rattle.settings.specs.declared.Edition.the-variants.{Mii}
 use Rattle.isolation.specs.Examples.{locked, filled}
 
 -- the lines of a replay up to and including the first "entered", answer 11

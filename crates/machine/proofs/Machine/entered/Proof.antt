@@ -4,7 +4,7 @@ use Rattle.machine.proofs.Machine.entered.Statement.{statement}
 use Rattle.machine.proofs.Machine.entered.Tie as tie
 use Rattle.machine.proofs.Machine.entered.Reads as reads
 use Rattle.machine.proofs.Machine.entered.Lts as lts
-use Rattle.config.proofs.Settings.region.Reads as region-reads
+use Rattle.settings.proofs.Settings.region.Reads as region-reads
 use Rattle.header.proofs.entry_registers.Reads as entry-registers-reads
 use Rattle.machine.proofs.Machine.settings.Reads as settings-reads
 use Rattle.machine.proofs.Machine.with_registers.Reads as with-registers-reads

@@ -5,7 +5,7 @@ use Rattle.machine.proofs.Machine.is_taken.Statement.{statement}
 use Rattle.machine.proofs.Machine.is_taken.Tie as tie
 use Rattle.machine.proofs.Machine.is_taken.Reads as reads
 use Rattle.machine.proofs.Machine.is_taken.Lts as lts
-use Rattle.config.proofs.Settings.enables_smi.Reads as enables-smi-reads
+use Rattle.settings.proofs.Settings.enables_smi.Reads as enables-smi-reads
 use Rattle.fields.proofs.any.Reads as any-reads
 use Rattle.machine.proofs.Machine.settings.Reads as settings-reads
 

@@ -6,7 +6,7 @@ use Rattle.machine.proofs.Machine.permits.Statement.{statement}
 use Rattle.machine.proofs.Machine.permits.Tie as tie
 use Rattle.machine.proofs.Machine.permits.Reads as reads
 use Rattle.machine.proofs.Machine.permits.Lts as lts
-use Rattle.config.proofs.Settings.allows_opcodes.Reads as allows-opcodes-reads
+use Rattle.settings.proofs.Settings.allows_opcodes.Reads as allows-opcodes-reads
 use Rattle.header.proofs.level_number.Reads as level-number-reads
 use Rattle.machine.proofs.Machine.settings.Reads as settings-reads
 

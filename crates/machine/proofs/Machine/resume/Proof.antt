@@ -4,7 +4,7 @@ use Rattle.machine.proofs.Machine.resume.Statement.{statement}
 use Rattle.machine.proofs.Machine.resume.Tie as tie
 use Rattle.machine.proofs.Machine.resume.Reads as reads
 use Rattle.machine.proofs.Machine.resume.Lts as lts
-use Rattle.config.proofs.Settings.header_place.Reads as header-place-reads
+use Rattle.settings.proofs.Settings.header_place.Reads as header-place-reads
 use Rattle.header.proofs.read.Reads as read-reads
 use Rattle.machine.proofs.Machine.answers.Reads as answers-reads
 use Rattle.machine.proofs.Machine.settings.Reads as settings-reads

@@ -4,7 +4,7 @@ use Rattle.machine.proofs.Machine.store_smhr.Statement.{statement}
 use Rattle.machine.proofs.Machine.store_smhr.Tie as tie
 use Rattle.machine.proofs.Machine.store_smhr.Reads as reads
 use Rattle.machine.proofs.Machine.store_smhr.Lts as lts
-use Rattle.config.proofs.Settings.smhr.Reads as smhr-reads
+use Rattle.settings.proofs.Settings.smhr.Reads as smhr-reads
 use Rattle.machine.proofs.Machine.advance.Reads as advance-reads
 use Rattle.machine.proofs.Machine.answers.Reads as answers-reads
 use Rattle.machine.proofs.Machine.settings.Reads as settings-reads

@@ -3,7 +3,7 @@ use Rattle.machine.proofs.Machine.window.Statement.{statement}
 use Rattle.machine.proofs.Machine.window.Tie as tie
 use Rattle.machine.proofs.Machine.window.Reads as reads
 use Rattle.machine.proofs.Machine.window.Lts as lts
-use Rattle.config.proofs.Settings.window.Reads as window-reads
+use Rattle.settings.proofs.Settings.window.Reads as window-reads
 use Rattle.machine.proofs.Machine.settings.Reads as settings-reads
 
 -- src/lib.rt:390:9

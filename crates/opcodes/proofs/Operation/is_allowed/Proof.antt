@@ -4,8 +4,8 @@ use Rattle.opcodes.proofs.Operation.is_allowed.Statement.{statement}
 use Rattle.opcodes.proofs.Operation.is_allowed.Tie as tie
 use Rattle.opcodes.proofs.Operation.is_allowed.Reads as reads
 use Rattle.opcodes.proofs.Operation.is_allowed.Lts as lts
-use Rattle.config.proofs.Settings.fits_header.Reads as fits-header-reads
-use Rattle.config.proofs.Settings.smi_lock.Reads as smi-lock-reads
+use Rattle.settings.proofs.Settings.fits_header.Reads as fits-header-reads
+use Rattle.settings.proofs.Settings.smi_lock.Reads as smi-lock-reads
 
 -- src/lib.rt:143:35
 enum-told : tie.Need-enum-told
