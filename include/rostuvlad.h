@@ -41,9 +41,9 @@ enum rostuvlad_answer {
 /* Why the player stopped. */
 enum rostuvlad_reason {
     ROSTUVLAD_END = 0,   /* no bytes left */
-    ROSTUVLAD_LIMIT = 1, /* bytes left after ROSTUVLAD_RECORD_LIMIT records */
+    ROSTUVLAD_LIMIT = 1, /* bytes, or turns of a group, left after ROSTUVLAD_RECORD_LIMIT records */
     ROSTUVLAD_TORN = 2,  /* fewer than 2 bytes left, or a length that overshoots */
-    ROSTUVLAD_BAD = 3    /* a length below 2, an unknown kind, or a wrong length for it */
+    ROSTUVLAD_BAD = 3    /* a length below 2, an unknown kind, a wrong length for it, or a bad group */
 };
 
 /* The kinds of records. */
