@@ -232,8 +232,8 @@ grouped-end false u v e h = absurd (false-true (rw e at h))
 times-ends : (n : ℕ) (h : Script) → isEnd (h .reason) ≡ true → times n h ≡ ends (repeated n (h .steps))
 times-ends n h e = ap (λ (q : Reason). record { steps = repeated n (h .steps); reason = q }) (end-is _ e)
 
-module _ (depth : ℕ) (l : List ℕ) (s o : State) (r : Reason) (at left : ℕ) (w : Walking o r depth l s at left)
-    (m : Machine) (anew : m ≡ s .machine) (s′ : State) (k : ℕ) (stop : Stop)
+module _ {depth : ℕ} {l : List ℕ} {s o : State} {r : Reason} {at left : ℕ} (w : Walking o r depth l s at left)
+    {m : Machine} (anew : m ≡ s .machine) {s′ : State} {k : ℕ} {stop : Stop}
     (ran-anew : Stretches l at left (state m (s .memory) (s .count) (s .events)) s′ k stop) where
   g : Stretches l at left s s′ k stop
   g = rw anew at ran-anew
@@ -257,13 +257,13 @@ module _ (depth : ℕ) (l : List ℕ) (s o : State) (r : Reason) (at left : ℕ)
   by-stop q e = rw (sym e ∙ g .stop-is, g .left-is) (leaves .after)
 
   -- a reason to stop
-  pub run-out : (q : Reason) → stop ≡ Leave q → (s′ ≡ o) × (q ≡ r)
-  run-out q e =
+  pub run-out : {q : Reason} → stop ≡ Leave q → (s′ ≡ o) × (q ≡ r)
+  run-out {q} e =
       let f : recordLimit - s′ .count ≡ recordLimit - s .count - length run = omega (arith, count-is, leaves .most, w .room) in
       goes-stops s′ o r (leaves .script) ran q (ap (λ (n : ℕ). limited n (leaves .script)) f ∙ by-stop (Leave q) e)
 
   -- a group
-  module _ (count start next : ℕ) (e : stop ≡ Group count start next) where
+  module _ {count start next : ℕ} (e : stop ≡ Group count start next) where
     abbrev list : List ℕ
     list = part l start next
 
@@ -288,7 +288,7 @@ module _ (depth : ℕ) (l : List ℕ) (s o : State) (r : Reason) (at left : ℕ)
     pub group-bounds : (start < next) × (next ≤ length l) × (0 < count)
     group-bounds = let f = by-stop (Group count start next) e in (f .2, f .3, f .4)
 
-    module _ (b : Bool) (a : b ≡ admitted (depth - 1) list) where
+    module _ {b : Bool} (a : b ≡ admitted (depth - 1) list) where
       outermost : groupLevels < depth → b ≡ isEnd (inner .reason)
       unfolding admitted
       outermost j = rw (le-ltb (depth - 1) groupLevels (omega arith)) at a
@@ -327,7 +327,7 @@ module _ (depth : ℕ) (l : List ℕ) (s o : State) (r : Reason) (at left : ℕ)
           once = λ j. absurd (omega (arith, fit .most));
         }
 
-        module _ (m′ : Machine) (anew′ : m′ ≡ s′ .machine) (s″ : State) (q : Reason)
+        module _ {m′ : Machine} (anew′ : m′ ≡ s′ .machine) {s″ : State} {q : Reason}
             (goes : Goes (state m′ (s′ .memory) (s′ .count) (s′ .events)) (times count inner) s″ q) where
           abbrev written : List Step
           written = repeated count (inner .steps)

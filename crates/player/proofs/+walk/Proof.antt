@@ -1,10 +1,13 @@
+use contract.Lifetimes.{Lfts}
+use borrow.Fn.Kinds.{Dens, Plain}
 use Rattle.player.proofs.Walking.{Walking, walking-all, run-out, group-room, group-bounds, run-unsound, run-fit, run-group, run-further, run-cut, other-tag, from-start}
 use Rattle.player.specs.Walks.{state, after, times}
 use Rattle.scripts.specs.Scripts.{recordLimit, within, limited}
 use Rattle.memory.specs.Memory.{memories}
+use denote.Ref.{now}
 use lib.ListN.{length}
 use mathlib.Core.Path.{_≡_, refl}
-use Prim.Native.Nat.{_-_}
+use Prim.Native.Nat.{_-_, _≤_}
 use native.Mathlib.Omega.{arith}
 use borrow.Author.Tests.{not-true, not-false}
 use borrow.Author.Needs.{needs}
@@ -43,128 +46,123 @@ abbrev walk-μ-loop : walk-lts.MeasureT-loop
 walk-μ-loop list depth rounds done main₀ management₀ events₀ machine₀ count₀ place₀ left₀ main management events machine count place left =
     recordLimit - count
 
-walk-loop-holds : (t : ℕ) → walk-lts.Need-loop-holds (claims t) (walk-at t) walk.Post walk-Inv-loop walk-μ-loop
+-- a need of the function, where the depth left is t
+abbrev Needed : (walk-lts.Claims → In 4 walk-kinds.ps → ((κs : Lfts 4) (a : Dens κs walk-kinds.ps) → Plain 4 walk-kinds.ps walk-lts.r κs) → walk-lts.InvT-loop → walk-lts.MeasureT-loop → Type 0) → Type 0
+Needed need = (t : ℕ) → need (claims t) (walk-at t) walk.Post walk-Inv-loop walk-μ-loop
+
+-- a group's list is within the list, and not empty
+bounds : (t : ℕ) (c : walk-lts.After-known-told (claims t) (walk-at t) walk.Post walk-Inv-loop walk-μ-loop)
+    → let g = c .before .stop .given .0 in
+    (g .1 .0 < g .1 .1 .0) × (g .1 .1 .0 ≤ length (now (c .before .before .before .before .before .before .before .before .before .before .before .before .before .before .before .before .before .args .list))) × (0 < g .0)
+bounds t c =
+    let ran = c .before .before .before .before .before .before .before .before in
+    let loop = ran .before .before .before .before .before .loop in
+    group-bounds (loop .inv .2) (ran .before .before .before .before .anew .ensures) (ran .records .ensures) (c .before .stop .given .1)
+
+walk-loop-holds : Needed walk-lts.Need-loop-holds
 walk-loop-holds t c = (refl, refl, walking-all _ _ _ _ (c .before .before .before .pre .1 .0) (c .before .before .before .pre .1 .1) _ _ record { state-is = refl; reason-is = refl })
 
-walk-anew-requires : (t : ℕ) → walk-lts.Need-anew-requires (claims t) (walk-at t) walk.Post walk-Inv-loop walk-μ-loop
+walk-anew-requires : Needed walk-lts.Need-anew-requires
 walk-anew-requires t c κs = search needs
 
-walk-records-requires : (t : ℕ) → walk-lts.Need-records-requires (claims t) (walk-at t) walk.Post walk-Inv-loop walk-μ-loop
+walk-records-requires : Needed walk-lts.Need-records-requires
 walk-records-requires t c κs = (c .before .before .before .before .loop .inv .2 .stands .fit .some, c .before .before .before .before .loop .inv .2 .room)
 
-walk-enum-known-stop : (t : ℕ) → walk-lts.Need-enum-known-stop (claims t) (walk-at t) walk.Post walk-Inv-loop walk-μ-loop
+walk-enum-known-stop : Needed walk-lts.Need-enum-known-stop
 walk-enum-known-stop t c = search needs
 
-walk-sub-is-admitted : (t : ℕ) → walk-lts.Need-sub-is-admitted (claims t) (walk-at t) walk.Post walk-Inv-loop walk-μ-loop
-walk-sub-is-admitted t c =
-    let ran = c .before .before .before .before .before .before .before .before in
-    let loop = ran .before .before .before .before .before .loop in
-    omega (arith, group-bounds _ _ _ _ _ _ _ (loop .inv .2) _ (ran .before .before .before .before .anew .ensures) _ _ _ (ran .records .ensures) _ _ _ (c .before .stop .given .1))
+walk-sub-is-admitted : Needed walk-lts.Need-sub-is-admitted
+walk-sub-is-admitted t c = omega (arith, bounds t c)
 
-walk-part-is-admitted-start : (t : ℕ) → walk-lts.Need-part-is-admitted-start (claims t) (walk-at t) walk.Post walk-Inv-loop walk-μ-loop
-walk-part-is-admitted-start t c =
-    let ran = c .before .before .before .before .before .before .before .before in
-    let loop = ran .before .before .before .before .before .loop in
-    omega (arith, group-bounds _ _ _ _ _ _ _ (loop .inv .2) _ (ran .before .before .before .before .anew .ensures) _ _ _ (ran .records .ensures) _ _ _ (c .before .stop .given .1))
+walk-part-is-admitted-start : Needed walk-lts.Need-part-is-admitted-start
+walk-part-is-admitted-start t c = omega (arith, bounds t c)
 
-walk-part-is-admitted-end : (t : ℕ) → walk-lts.Need-part-is-admitted-end (claims t) (walk-at t) walk.Post walk-Inv-loop walk-μ-loop
-walk-part-is-admitted-end t c =
-    let ran = c .before .before .before .before .before .before .before .before in
-    let loop = ran .before .before .before .before .before .loop in
-    omega (arith, group-bounds _ _ _ _ _ _ _ (loop .inv .2) _ (ran .before .before .before .before .anew .ensures) _ _ _ (ran .records .ensures) _ _ _ (c .before .stop .given .1))
+walk-part-is-admitted-end : Needed walk-lts.Need-part-is-admitted-end
+walk-part-is-admitted-end t c = omega (arith, bounds t c)
 
-walk-sub-is-admitted-2 : (t : ℕ) → walk-lts.Need-sub-is-admitted-2 (claims t) (walk-at t) walk.Post walk-Inv-loop walk-μ-loop
+walk-sub-is-admitted-2 : Needed walk-lts.Need-sub-is-admitted-2
 walk-sub-is-admitted-2 t c = omega (arith, c .before .before .before .before .before .before .before .before .before .before .before .before .before .before .loop .inv .2 .stands .fit .deep)
 
-walk-is-admitted-requires : (t : ℕ) → walk-lts.Need-is-admitted-requires (claims t) (walk-at t) walk.Post walk-Inv-loop walk-μ-loop
+walk-is-admitted-requires : Needed walk-lts.Need-is-admitted-requires
 walk-is-admitted-requires t c κs = search needs
 
-walk-sub-walk : (t : ℕ) → walk-lts.Need-sub-walk (claims t) (walk-at t) walk.Post walk-Inv-loop walk-μ-loop
-walk-sub-walk t c =
-    let ran = c .before .before .before .before .before .before .before .before .before .before .before in
-    let loop = ran .before .before .before .before .before .loop in
-    omega (arith, group-bounds _ _ _ _ _ _ _ (loop .inv .2) _ (ran .before .before .before .before .anew .ensures) _ _ _ (ran .records .ensures) _ _ _ (c .before .before .before .before .stop .given .1))
+walk-sub-walk : Needed walk-lts.Need-sub-walk
+walk-sub-walk t c = omega (arith, bounds t (c .before .before .before))
 
-walk-part-walk-start : (t : ℕ) → walk-lts.Need-part-walk-start (claims t) (walk-at t) walk.Post walk-Inv-loop walk-μ-loop
-walk-part-walk-start t c =
-    let ran = c .before .before .before .before .before .before .before .before .before .before .before in
-    let loop = ran .before .before .before .before .before .loop in
-    omega (arith, group-bounds _ _ _ _ _ _ _ (loop .inv .2) _ (ran .before .before .before .before .anew .ensures) _ _ _ (ran .records .ensures) _ _ _ (c .before .before .before .before .stop .given .1))
+walk-part-walk-start : Needed walk-lts.Need-part-walk-start
+walk-part-walk-start t c = omega (arith, bounds t (c .before .before .before))
 
-walk-part-walk-end : (t : ℕ) → walk-lts.Need-part-walk-end (claims t) (walk-at t) walk.Post walk-Inv-loop walk-μ-loop
-walk-part-walk-end t c =
-    let ran = c .before .before .before .before .before .before .before .before .before .before .before in
-    let loop = ran .before .before .before .before .before .loop in
-    omega (arith, group-bounds _ _ _ _ _ _ _ (loop .inv .2) _ (ran .before .before .before .before .anew .ensures) _ _ _ (ran .records .ensures) _ _ _ (c .before .before .before .before .stop .given .1))
+walk-part-walk-end : Needed walk-lts.Need-part-walk-end
+walk-part-walk-end t c = omega (arith, bounds t (c .before .before .before))
 
-walk-sub-walk-2 : (t : ℕ) → walk-lts.Need-sub-walk-2 (claims t) (walk-at t) walk.Post walk-Inv-loop walk-μ-loop
+walk-sub-walk-2 : Needed walk-lts.Need-sub-walk-2
 walk-sub-walk-2 t c = omega (arith, c .before .before .before .before .before .before .before .before .before .before .before .before .before .before .before .before .before .loop .inv .2 .stands .fit .deep)
 
-walk-anew-requires-2 : (t : ℕ) → walk-lts.Need-anew-requires-2 (claims t) (walk-at t) walk.Post walk-Inv-loop walk-μ-loop
+walk-anew-requires-2 : Needed walk-lts.Need-anew-requires-2
 walk-anew-requires-2 t c κs = search needs
 
-walk-walk-requires : (t : ℕ) → walk-lts.Need-walk-requires (claims t) (walk-at t) walk.Post walk-Inv-loop walk-μ-loop
+walk-walk-requires : Needed walk-lts.Need-walk-requires
 walk-walk-requires t c κs =
     let ran = c .before .before .before .before .before .before .before .before .before .before .before .before .before .before .before .before in
     let loop = ran .before .before .before .before .before .loop in
-    (omega (arith, loop .inv .2 .stands .fit .deep, c .before .before .before .before .before .before .before .before .before .before .before .before .before .before .before .before .before .before .before .before .before .before .before .before .before .pre .0), (run-fit _ _ _ _ _ _ _ (loop .inv .2) _ (ran .before .before .before .before .anew .ensures) _ _ _ (ran .records .ensures) _ _ _ (c .before .before .before .before .before .before .before .before .before .stop .given .1) _ (c .before .before .before .before .before .before .is-admitted .ensures) (not-false _ (c .before .before .before .before .before .if1 .left)), omega (arith, group-room _ _ _ _ _ _ _ (loop .inv .2) _ (ran .before .before .before .before .anew .ensures) _ _ _ (ran .records .ensures) _ _ _ (c .before .before .before .before .before .before .before .before .before .stop .given .1))))
+    (omega (arith, loop .inv .2 .stands .fit .deep, c .before .before .before .before .before .before .before .before .before .before .before .before .before .before .before .before .before .before .before .before .before .before .before .before .before .pre .0), (run-fit (loop .inv .2) (ran .before .before .before .before .anew .ensures) (ran .records .ensures) (c .before .before .before .before .before .before .before .before .before .stop .given .1) (c .before .before .before .before .before .before .is-admitted .ensures) (not-false _ (c .before .before .before .before .before .if1 .left)), omega (arith, group-room (loop .inv .2) (ran .before .before .before .before .anew .ensures) (ran .records .ensures) (c .before .before .before .before .before .before .before .before .before .stop .given .1))))
 
-walk-enum-told : (t : ℕ) → walk-lts.Need-enum-told (claims t) (walk-at t) walk.Post walk-Inv-loop walk-μ-loop
+walk-enum-told : Needed walk-lts.Need-enum-told
 walk-enum-told t c = search needs
 
-walk-loop-less : (t : ℕ) → walk-lts.Need-loop-less (claims t) (walk-at t) walk.Post walk-Inv-loop walk-μ-loop
+walk-loop-less : Needed walk-lts.Need-loop-less
 walk-loop-less t c =
     let ran = c .before .before .before .before .before .before .before .before .before .before .before .before .before .before .before .before .before .before .before .before .before .before .before .before in
     let loop = ran .before .before .before .before .before .loop in
-    omega (arith, run-further _ _ _ _ _ _ _ (loop .inv .2) _ (ran .before .before .before .before .anew .ensures) _ _ _ (ran .records .ensures) _ _ _ (c .before .before .before .before .before .before .before .before .before .before .before .before .before .before .before .before .before .stop .given .1) _ (c .before .before .before .before .before .before .before .before .before .before .before .before .before .before .is-admitted .ensures) (not-false _ (c .before .before .before .before .before .before .before .before .before .before .before .before .before .if1 .left)) _ (c .before .before .before .before .before .before .before .before .before .before .before .anew2 .ensures) _ _ (c .before .before .before .before .before .before .before .walk .ensures) (c .enum-told .given .1), run-group _ _ _ _ _ _ _ (loop .inv .2) _ (ran .before .before .before .before .anew .ensures) _ _ _ (ran .records .ensures) _ _ _ (c .before .before .before .before .before .before .before .before .before .before .before .before .before .before .before .before .before .stop .given .1) _ (c .before .before .before .before .before .before .before .before .before .before .before .before .before .before .is-admitted .ensures) (not-false _ (c .before .before .before .before .before .before .before .before .before .before .before .before .before .if1 .left)) _ (c .before .before .before .before .before .before .before .before .before .before .before .anew2 .ensures) _ _ (c .before .before .before .before .before .before .before .walk .ensures) (c .enum-told .given .1) .room)
+    omega (arith, run-further (loop .inv .2) (ran .before .before .before .before .anew .ensures) (ran .records .ensures) (c .before .before .before .before .before .before .before .before .before .before .before .before .before .before .before .before .before .stop .given .1) (c .before .before .before .before .before .before .before .before .before .before .before .before .before .before .is-admitted .ensures) (not-false _ (c .before .before .before .before .before .before .before .before .before .before .before .before .before .if1 .left)) (c .before .before .before .before .before .before .before .before .before .before .before .anew2 .ensures) (c .before .before .before .before .before .before .before .walk .ensures) (c .enum-told .given .1), run-group (loop .inv .2) (ran .before .before .before .before .anew .ensures) (ran .records .ensures) (c .before .before .before .before .before .before .before .before .before .before .before .before .before .before .before .before .before .stop .given .1) (c .before .before .before .before .before .before .before .before .before .before .before .before .before .before .is-admitted .ensures) (not-false _ (c .before .before .before .before .before .before .before .before .before .before .before .before .before .if1 .left)) (c .before .before .before .before .before .before .before .before .before .before .before .anew2 .ensures) (c .before .before .before .before .before .before .before .walk .ensures) (c .enum-told .given .1) .room)
 
-walk-loop-again : (t : ℕ) → walk-lts.Need-loop-again (claims t) (walk-at t) walk.Post walk-Inv-loop walk-μ-loop
+walk-loop-again : Needed walk-lts.Need-loop-again
 walk-loop-again t c =
     let ran = c .before .before .before .before .before .before .before .before .before .before .before .before .before .before .before .before .before .before .before .before .before .before .before .before in
     let loop = ran .before .before .before .before .before .loop in (
       omega (arith, c .before .before .before .before .before .before .main2 .given, c .before .before .before .before .before .before .before .before .before .before .before .before .before .before .before .before .before .before .before .before .before .before .before .main .given, loop .inv .0),
       omega (arith, c .before .before .before .before .management2 .given, c .before .before .before .before .before .before .before .before .before .before .before .before .before .before .before .before .before .before .before .before .before .management .given, loop .inv .1),
-      run-group _ _ _ _ _ _ _ (loop .inv .2) _ (ran .before .before .before .before .anew .ensures) _ _ _ (ran .records .ensures) _ _ _ (c .before .before .before .before .before .before .before .before .before .before .before .before .before .before .before .before .before .stop .given .1) _ (c .before .before .before .before .before .before .before .before .before .before .before .before .before .before .is-admitted .ensures) (not-false _ (c .before .before .before .before .before .before .before .before .before .before .before .before .before .if1 .left)) _ (c .before .before .before .before .before .before .before .before .before .before .before .anew2 .ensures) _ _ (c .before .before .before .before .before .before .before .walk .ensures) (c .enum-told .given .1),
+      run-group (loop .inv .2) (ran .before .before .before .before .anew .ensures) (ran .records .ensures) (c .before .before .before .before .before .before .before .before .before .before .before .before .before .before .before .before .before .stop .given .1) (c .before .before .before .before .before .before .before .before .before .before .before .before .before .before .is-admitted .ensures) (not-false _ (c .before .before .before .before .before .before .before .before .before .before .before .before .before .if1 .left)) (c .before .before .before .before .before .before .before .before .before .before .before .anew2 .ensures) (c .before .before .before .before .before .before .before .walk .ensures) (c .enum-told .given .1),
     )
 
-walk-enum-known-stop-2 : (t : ℕ) → walk-lts.Need-enum-known-stop-2 (claims t) (walk-at t) walk.Post walk-Inv-loop walk-μ-loop
+walk-enum-known-stop-2 : Needed walk-lts.Need-enum-known-stop-2
 walk-enum-known-stop-2 t c = search needs
 
-walk-same-length : (t : ℕ) → walk-lts.Need-same-length (claims t) (walk-at t) walk.Post walk-Inv-loop walk-μ-loop
+walk-same-length : Needed walk-lts.Need-same-length
 walk-same-length t c = search needs
 
-walk-same-length-2 : (t : ℕ) → walk-lts.Need-same-length-2 (claims t) (walk-at t) walk.Post walk-Inv-loop walk-μ-loop
+walk-same-length-2 : Needed walk-lts.Need-same-length-2
 walk-same-length-2 t c = search needs
 
-walk-returns : (t : ℕ) → walk-lts.Need-returns (claims t) (walk-at t) walk.Post walk-Inv-loop walk-μ-loop
+walk-returns : Needed walk-lts.Need-returns
 walk-returns t c =
     let ran = c .before .before .before .before .before .before .before .before .before .before .before in
     let loop = ran .before .before .before .before .before .loop in
-    from-start (run-unsound _ _ _ _ _ _ _ (loop .inv .2) _ (ran .before .before .before .before .anew .ensures) _ _ _ (ran .records .ensures) _ _ _ (c .before .before .before .before .stop .given .1) _ (c .before .is-admitted .ensures) (not-true _ (c .if1 .taken)))
+    from-start (run-unsound (loop .inv .2) (ran .before .before .before .before .anew .ensures) (ran .records .ensures) (c .before .before .before .before .stop .given .1) (c .before .is-admitted .ensures) (not-true _ (c .if1 .taken)))
 
-walk-same-length-3 : (t : ℕ) → walk-lts.Need-same-length-3 (claims t) (walk-at t) walk.Post walk-Inv-loop walk-μ-loop
+walk-same-length-3 : Needed walk-lts.Need-same-length-3
 walk-same-length-3 t c = omega (arith, c .before .before .before .before .before .main2 .given, c .before .before .before .before .before .before .before .before .before .before .before .before .before .before .before .before .before .before .before .before .before .before .main .given, c .before .before .before .before .before .before .before .before .before .before .before .before .before .before .before .before .before .before .before .before .before .before .before .before .before .before .before .before .loop .inv .0)
 
-walk-same-length-4 : (t : ℕ) → walk-lts.Need-same-length-4 (claims t) (walk-at t) walk.Post walk-Inv-loop walk-μ-loop
+walk-same-length-4 : Needed walk-lts.Need-same-length-4
 walk-same-length-4 t c = omega (arith, c .before .before .before .management2 .given, c .before .before .before .before .before .before .before .before .before .before .before .before .before .before .before .before .before .before .before .before .management .given, c .before .before .before .before .before .before .before .before .before .before .before .before .before .before .before .before .before .before .before .before .before .before .before .before .before .before .before .before .loop .inv .1)
 
-walk-returns-2 : (t : ℕ) → walk-lts.Need-returns-2 (claims t) (walk-at t) walk.Post walk-Inv-loop walk-μ-loop
+walk-returns-2 : Needed walk-lts.Need-returns-2
 walk-returns-2 t c =
     let ran = c .before .before .before .before .before .before .before .before .before .before .before .before .before .before .before .before .before .before .before .before .before .before .before in
     let loop = ran .before .before .before .before .before .loop in
-    from-start (run-cut _ _ _ _ _ _ _ (loop .inv .2) _ (ran .before .before .before .before .anew .ensures) _ _ _ (ran .records .ensures) _ _ _ (c .before .before .before .before .before .before .before .before .before .before .before .before .before .before .before .before .stop .given .1) _ (c .before .before .before .before .before .before .before .before .before .before .before .before .before .is-admitted .ensures) (not-false _ (c .before .before .before .before .before .before .before .before .before .before .before .before .if1 .left)) _ (c .before .before .before .before .before .before .before .before .before .before .anew2 .ensures) _ _ (c .before .before .before .before .before .before .walk .ensures) (λ e. other-tag (rw e at (c .match2 .keys2))))
+    from-start (run-cut (loop .inv .2) (ran .before .before .before .before .anew .ensures) (ran .records .ensures) (c .before .before .before .before .before .before .before .before .before .before .before .before .before .before .before .before .stop .given .1) (c .before .before .before .before .before .before .before .before .before .before .before .before .before .is-admitted .ensures) (not-false _ (c .before .before .before .before .before .before .before .before .before .before .before .before .if1 .left)) (c .before .before .before .before .before .before .before .before .before .before .anew2 .ensures) (c .before .before .before .before .before .before .walk .ensures) (λ e. other-tag (rw e at (c .match2 .keys2))))
 
-walk-same-length-5 : (t : ℕ) → walk-lts.Need-same-length-5 (claims t) (walk-at t) walk.Post walk-Inv-loop walk-μ-loop
+walk-same-length-5 : Needed walk-lts.Need-same-length-5
 walk-same-length-5 t c = search needs
 
-walk-same-length-6 : (t : ℕ) → walk-lts.Need-same-length-6 (claims t) (walk-at t) walk.Post walk-Inv-loop walk-μ-loop
+walk-same-length-6 : Needed walk-lts.Need-same-length-6
 walk-same-length-6 t c = search needs
 
-walk-returns-3 : (t : ℕ) → walk-lts.Need-returns-3 (claims t) (walk-at t) walk.Post walk-Inv-loop walk-μ-loop
+walk-returns-3 : Needed walk-lts.Need-returns-3
 walk-returns-3 t c =
     let ran = c .before .before .before .before .before .before .before .before in
     let loop = ran .before .before .before .before .before .loop in
-    from-start (run-out _ _ _ _ _ _ _ (loop .inv .2) _ (ran .before .before .before .before .anew .ensures) _ _ _ (ran .records .ensures) _ (c .before .stop2 .given .1))
+    from-start (run-out (loop .inv .2) (ran .before .before .before .before .anew .ensures) (ran .records .ensures) (c .before .stop2 .given .1))
 
 pub +walk-spec : {M : Type 1} → statement M
 +walk-spec = close μ-walk λ t. walk-lts.spec (claims t)
