@@ -1,14 +1,13 @@
 -- Playing a script up to the limit, step by step and group by group. Assumes nothing.
-use mathlib.Core.Path.{_≡_, refl, sym, ap, _∙_}
-use mathlib.Core.Bool.{Bool, true, false}
-use mathlib.Core.List.{List, [], _∷_, _++_}
+use mathlib.Core.Path.{_≡_, sym, ap, _∙_}
+use mathlib.Core.List.{List}
 use Prim.Native.Nat.{ℕ, _+_, _-_, _<_, _≤_}
 use native.Mathlib.Omega.{arith}
 use lib.ListN.{length}
 use Rattle.steps.specs.declared.Step.{Step}
 use Rattle.lines.specs.declared.Reason.{Reason}
 use Rattle.lines.specs.declared.Reason.the-variants as why
-use Rattle.scripts.specs.Scripts.{recordLimit, Script, isEnd, stops, joins, limited}
+use Rattle.scripts.specs.Scripts.{recordLimit, Script, stops, joins, limited}
 use Rattle.scripts.proofs.Limits.{ends, limited-joins, limited-all, limited-cut, end-fits, not-end-cut, cut-limit, limited-within}
 use Rattle.player.specs.Walks.{State, after, Goes}
 use Rattle.player.proofs.States.{after-append, after-count}

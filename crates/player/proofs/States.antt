@@ -1,7 +1,7 @@
 -- Where playing stands after some steps. Assumes nothing.
-use mathlib.Core.Path.{_≡_, refl, sym, ap, _∙_}
+use mathlib.Core.Path.{_≡_, refl, ap, _∙_}
 use mathlib.Core.List.{List, [], _∷_, _++_, map}
-use Prim.Native.Nat.{ℕ, suc, _+_, _-_}
+use Prim.Native.Nat.{ℕ, suc, _+_}
 use native.Mathlib.Numerals.{add-one}
 use native.Mathlib.Omega.{arith}
 use lib.ListN.{length, set}
@@ -14,8 +14,7 @@ use Rattle.machine.specs.declared.Stepped.{Stepped}
 use Rattle.machine.specs.Outcomes.{ends}
 use Rattle.machine.specs.Steps.{stepped}
 use Rattle.runs.specs.Runs.{run}
-use Rattle.lines.specs.declared.Reason.{Reason}
-use Rattle.scripts.specs.Scripts.{Script, scriptOf, whole, limited}
+use Rattle.scripts.specs.Scripts.{scriptOf, whole}
 use Rattle.player.specs.declared.Played.{Played}
 use Rattle.player.specs.Player.{playing, Plays}
 use Rattle.player.specs.Walks.{State, state, stepOn, after, Goes}

@@ -1,6 +1,6 @@
 -- A stretch of records: the loop that runs it. Assumes nothing.
 use mathlib.Core.Path.{_≡_, refl, sym, ap, _∙_}
-use mathlib.Core.Bool.{Bool, true, false, cond, _&&_}
+use mathlib.Core.Bool.{false}
 use mathlib.Core.List.{List}
 use Prim.Native.Nat.{ℕ, zero, suc, _+_, _-_, _<_, _≤_}
 use native.Mathlib.Omega.{arith}
@@ -10,7 +10,7 @@ use Rattle.steps.specs.declared.Step.{Step}
 use Rattle.machine.specs.declared.Machine.{Machine}
 use Rattle.trace.specs.declared.Found.{Found}
 use Rattle.trace.specs.declared.Found.the-variants as found
-use Rattle.trace.specs.Trace.{ended, foundAt}
+use Rattle.trace.specs.Trace.{foundAt}
 use Rattle.lines.specs.declared.Reason.the-variants as why
 use Rattle.scripts.specs.Scripts.{recordLimit}
 use Rattle.player.specs.declared.Stop.{Stop}

@@ -8,7 +8,6 @@ use lib.Dec.{eqb}
 use lib.Seq.{take-append-seam}
 use Rattle.fields.specs.Fields.{numberBy}
 use Rattle.steps.specs.declared.Answer.{Answer}
-use Rattle.steps.specs.declared.Step.{Step}
 use Rattle.steps.specs.declared.Step.the-variants.{Reset, Wake}
 use Rattle.steps.specs.Steps.{kindOf}
 use Rattle.steps.specs.Answers.{numberOf, valueOf}

@@ -1,8 +1,8 @@
 -- Up to the first group, what is read up to the limit is the rule as it was. Assumes nothing.
-use mathlib.Core.Path.{_≡_, refl, sym, ap, _∙_}
+use mathlib.Core.Path.{_≡_, refl, ap, _∙_}
 use mathlib.Core.Bool.{Bool, true, false, cond}
 use mathlib.Core.List.{List}
-use Prim.Native.Nat.{ℕ, zero, suc, _-_, _<_, _≤_}
+use Prim.Native.Nat.{ℕ, zero, suc}
 use native.Mathlib.Omega.{arith}
 use borrow.Author.Tests.{leb-true, leb-false}
 use Rattle.fields.specs.Fields.{numberBy}
@@ -10,7 +10,7 @@ use Rattle.trace.specs.declared.Found.{Found}
 use Rattle.trace.specs.declared.Found.the-variants.{Record, Group, End, Torn, Bad}
 use Rattle.trace.specs.Trace.{ended, frameAt, framed, recordOf, recordBy, foundAt}
 use Rattle.lines.specs.declared.Reason.the-variants as why
-use Rattle.scripts.specs.Scripts.{Script, recordLimit, groupLevels, stops, follows, readBy, rest, within, limited}
+use Rattle.scripts.specs.Scripts.{Script, recordLimit, groupLevels, stops, follows, rest, within, limited}
 use Rattle.scripts.specs.Former.{formerBy, formerFrom, UpToGroups, SameAsFormerly, Groupless, oneWake}
 use Rattle.scripts.proofs.Reading.{rest-none, rest-found, more-left}
 use Rattle.scripts.proofs.Limits.{limited-end, limited-stop, limited-none, limited-suc}

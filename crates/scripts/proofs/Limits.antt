@@ -1,13 +1,13 @@
 -- What is read, up to a limit. Assumes nothing.
 use mathlib.Core.Path.{_≡_, refl, sym, ap, _∙_}
 use mathlib.Core.Bool.{Bool, true, false, cond}
-use mathlib.Core.List.{List, [], _∷_, _++_}
-use Prim.Native.Nat.{ℕ, zero, suc, _+_, _-_, _<_, _≤_}
+use mathlib.Core.List.{List, [], _∷_}
+use Prim.Native.Nat.{ℕ, zero, suc, _-_, _<_, _≤_}
 use native.Mathlib.Nat.{lt-irrefl}
 use native.Mathlib.Omega.{arith}
 use borrow.Author.Tests.{lt-ltb, ltb-false, ltb-true}
-use lib.Dec.{leb, ltb, leb·zero, leb·suc-zero, leb·suc-suc}
-use lib.ListN.{length, take, length-take}
+use lib.Dec.{ltb, leb·zero, leb·suc-zero, leb·suc-suc}
+use lib.ListN.{length, length-take}
 use Rattle.steps.specs.declared.Step.{Step}
 use Rattle.lines.specs.declared.Reason.{Reason}
 use Rattle.lines.specs.declared.Reason.the-variants as why

@@ -12,7 +12,6 @@ use Rattle.trace.specs.declared.Found.{Found}
 use Rattle.trace.specs.declared.Found.the-variants.{Record, Group, End, Torn, Bad}
 use Rattle.trace.specs.declared.Frame.{Frame}
 use Rattle.trace.specs.declared.Frame.the-variants as frame
-use Rattle.trace.specs.declared.Passed.{Passed}
 use Rattle.trace.specs.declared.Passed.the-variants as past
 use Rattle.trace.specs.Trace.{lengthAt, pastAt, part, Kind, kinds, recordBy, recordOf, isKindBy, isKind, groupKind, groupOf, ended, torn, short, frameAt, framed, foundAt, passed}
 
