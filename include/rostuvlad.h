@@ -42,7 +42,7 @@ enum rostuvlad_answer {
 enum rostuvlad_reason {
     ROSTUVLAD_END = 0,   /* no bytes left */
     ROSTUVLAD_LIMIT = 1, /* bytes, or turns of a group, left after ROSTUVLAD_RECORD_LIMIT records */
-    ROSTUVLAD_TORN = 2,  /* fewer than 2 bytes left, or a length that overshoots */
+    ROSTUVLAD_TORN = 2,  /* fewer than 2 bytes left, or a length that overshoots the trace */
     ROSTUVLAD_BAD = 3    /* a length below 2, an unknown kind, a wrong length for it, or a bad group */
 };
 

@@ -1,7 +1,7 @@
 //! Files that are read, and how a text is told from a binary trace.
 
 use crate::edition::Edition;
-use crate::form::first_sound;
+use crate::form::first_item;
 use crate::text::{parse, Problem, Text};
 use std::ffi::OsStr;
 use std::fs::File;
@@ -94,7 +94,7 @@ fn expects(bytes: &[u8]) -> bool {
     false
 }
 
-/// Whether the bytes are a trace's text. A binary trace begins with a record or a sound group, or it
+/// Whether the bytes are a trace's text. A binary trace begins with a record or the head of a group, or it
 /// has no expectation and one byte in four at the least is none that a text has. A text that was damaged is
 /// still taken for a text, so that its lines are judged.
 pub fn is_text(bytes: &[u8]) -> bool {
@@ -104,7 +104,7 @@ pub fn is_text(bytes: &[u8]) -> bool {
     };
     let count: usize = bytes.utf8_chunks().map(strange).sum();
     let few = count * 4 < bytes.len().max(1);
-    first_sound(bytes).is_err() && (few || is_utf_16(bytes) || expects(bytes))
+    first_item(bytes).is_err() && (few || is_utf_16(bytes) || expects(bytes))
 }
 
 /// A text's lines, or what is wrong with it, another edition than the one asked for too.

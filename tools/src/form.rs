@@ -104,11 +104,11 @@ impl Fault {
 
 /// The record or the group at the head of the bytes, and the bytes after it; or why there is none. A
 /// group's list is not looked at.
-fn first_item(bytes: &[u8]) -> Result<(Item<'_>, &[u8]), Fault> {
+pub fn first_item(bytes: &[u8]) -> Result<(Item<'_>, &[u8]), Fault> {
     if bytes.is_empty() {
         return Err(Fault::new(Stop::End, "no bytes are left"));
     }
-    let torn = || Fault::new(Stop::Torn, "a record is cut off");
+    let torn = || Fault::new(Stop::Torn, "a record or a group is cut off");
     let (length, rest) = bytes.split_first_chunk::<2>().ok_or_else(torn)?;
     let length = u16::from_le_bytes(*length).into();
     let (record, after) = rest.split_at_checked(length).ok_or_else(torn)?;

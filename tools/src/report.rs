@@ -189,7 +189,7 @@ impl Report<'_> {
         let why = match self.played.stop {
             Stop::End => "stopped at the end".into(),
             Stop::Limit => "stopped after 10,000 records, the most that are played".into(),
-            Stop::Torn => format!("stopped at byte {at}: the trace ends within a record"),
+            Stop::Torn => format!("stopped at byte {at}: the trace ends within a record or a group"),
             Stop::Bad => self.bad(at),
             Stop::Long => "not played: a trace has 65,536 bytes at most".into(),
         };

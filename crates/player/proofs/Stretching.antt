@@ -24,7 +24,6 @@ pub record Turned (l : List ℕ) (at left p k : ℕ) : Type 0 where
   pub goes-on : over l at left ≡ false
   pub place-is : p ≡ placeAt l at
   pub left-is : k ≡ leftAt l at left
-  pub some : 0 < k
 
 module _ (l : List ℕ) (at left : ℕ) where
   pub turned-again : (p k : ℕ) → length l ≤ at → 1 < left → p ≡ 0 → k ≡ left - 1 → Turned l at left p k
@@ -32,11 +31,10 @@ module _ (l : List ℕ) (at left : ℕ) where
     goes-on = rw (le-leb _ _ h, lt-leb _ _ i);
     place-is = rw (le-leb _ _ h) e;
     left-is = rw (le-leb _ _ h) f;
-    some = omega arith;
   }
 
-  pub turned-not : (p k : ℕ) → at < length l → 0 < left → p ≡ at → k ≡ left → Turned l at left p k
-  turned-not p k h i e f = record { goes-on = rw (lt-leb _ _ h); place-is = rw (lt-leb _ _ h) e; left-is = rw (lt-leb _ _ h) f; some = omega arith }
+  pub turned-not : (p k : ℕ) → at < length l → p ≡ at → k ≡ left → Turned l at left p k
+  turned-not p k h e f = record { goes-on = rw (lt-leb _ _ h); place-is = rw (lt-leb _ _ h) e; left-is = rw (lt-leb _ _ h) f }
 
   pub stretch-end : (n : ℕ) → length l ≤ at → left ≤ 1 → stretchFrom n l at left ≡ stopped left (Leave why.End)
   unfolding stretchFrom

@@ -1,4 +1,4 @@
--- What the player's own functions promise each other: how playing goes on from where it stands.
+-- What the player's own functions promise each other: how playing goes on from where it stands. No public contract names any of it.
 use mathlib.Core.Path.{_≡_}
 use Prim.Native.Nat.{ℕ, zero, suc, _+_, _-_, _<_, _≤_}
 use mathlib.Core.Bool.{Bool, true, cond, _&&_}
@@ -60,6 +60,7 @@ placeAt l at = cond (ended l at) 0 at
 abbrev pub leftAt : List ℕ → ℕ → ℕ → ℕ
 leftAt l at left = cond (ended l at) (left - 1) left
 
+-- what was found where a turn begins; the end is found there only in a list that is empty
 abbrev pub stretchBy : Found → ℕ → (ℕ → Stretch) → Stretch
 stretchBy (found.Record step next) left rest = record { steps = step ∷ rest next .steps; left = rest next .left; stop = rest next .stop }
 stretchBy (found.Group count start next) left rest = stopped left (Group count start next)

@@ -41,7 +41,7 @@ struct Ran {
     stop: Stop,
 }
 
-// Runs the records from a place of a list on, for as many rounds as are not done, up to a group, the end or the limit. The next round begins
+// Runs the records from a place of a list on, for as many rounds as are not done, up to a group or a reason to stop. The next round begins
 // in the turn of the loop that runs its first record, so that each turn runs one or leaves. What is noted of each record goes to the list of
 // events. The machine is put together anew, so that the loop doesn't copy the gaps between its fields.
 fn records(
@@ -54,7 +54,6 @@ fn records(
     management: &mut [u8],
     events: &mut [u64; 10000],
 ) -> Ran
-    requires { ⌜ 0 < rounds ⌝ }
     requires { ⌜ done ≤ recordLimit ⌝ }
     ensures { λ r. ⌜ Stretches (now (list .entry)) from rounds
         (state start (memories (now (main .entry)) (now (management .entry))) done (now (events .entry)))

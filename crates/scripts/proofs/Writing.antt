@@ -17,7 +17,7 @@ use Rattle.trace.proofs.Placing.{foundOn, Closed, between, part-on, found-on}
 use Rattle.lines.specs.declared.Reason.the-variants as why
 use Rattle.scripts.specs.Scripts.{Script, groupLevels, isEnd, stops, follows, joins, repeated, grouped, readBy, readFrom, rest, within}
 use Rattle.scripts.specs.Former.{oneWake}
-use Rattle.scripts.specs.Written.{copies, groupBytes, Concatenates, WrittenOut, Writable}
+use Rattle.scripts.specs.Written.{copies, groupBytes, nested, Concatenates, WrittenOut, EightLevels, Writable}
 use Rattle.scripts.proofs.Reading.{rest-found, false-true}
 
 -- from the last place of a list back to its first
@@ -210,8 +210,12 @@ written-out count p l q some few held small i j =
     ∙ sym (both (within d) p (copies count l ++ q) i)
     ∙ ap (λ (m : List ℕ). rest (within d) m 0) (sym (append-assoc p (copies count l) q))
 
--- ---- the example
+-- ---- the examples
 
 pub one-wake-writable : Writable oneWake
 unfolding within readFrom foundAt frameAt framed recordOf recordBy numberBy
 one-wake-writable = (refl, refl)
+
+pub eight-levels : EightLevels
+unfolding nested groupBytes bytesOf repeated within readFrom foundAt frameAt framed groupOf recordOf recordBy numberBy
+eight-levels = (refl, refl)

@@ -1,4 +1,5 @@
--- The rule from before there were groups (01, "Trace player"), and that nothing else moved.
+-- The rule from before there were groups (01, "Trace player"), and that nothing else moved. That the reader under it found what it finds now
+-- is in trace/specs/Former.
 use mathlib.Core.Path.{_≡_}
 use Prim.Native.Nat.{ℕ, zero, suc}
 use mathlib.Core.Bool.{cond}
@@ -23,7 +24,7 @@ unfoldable pub formerFrom : (ℕ → ℕ → Script) → ℕ → List ℕ → �
 formerFrom group zero l at = stops (cond (ended l at) why.End why.Limit)
 formerFrom group (suc n) l at = formerBy (foundAt l at) (formerFrom group n l) (group (suc n) at)
 
--- kind 16 was an unknown kind
+-- a group was bad
 abbrev pub formerly : List ℕ → Script
 formerly trace = formerFrom (λ n at. stops why.Bad) recordLimit trace 0
 

@@ -2,11 +2,14 @@
 use mathlib.Core.Path.{_≡_}
 use Prim.Native.Nat.{ℕ, zero, suc, _+_, _<_}
 use mathlib.Core.Bool.{true}
-use mathlib.Core.List.{List, [], _++_}
+use mathlib.Core.List.{List, [], _∷_, _++_}
 use lib.ListN.{length}
 use Rattle.fields.specs.Fields.{bytesOf}
+use Rattle.steps.specs.declared.Step.the-variants.{Wake}
 use Rattle.trace.specs.Trace.{groupKind}
-use Rattle.scripts.specs.Scripts.{groupLevels, isEnd, joins, rest, within, whole}
+use Rattle.lines.specs.declared.Reason.the-variants as why
+use Rattle.scripts.specs.Scripts.{groupLevels, isEnd, stops, joins, rest, within, whole}
+use Rattle.scripts.specs.Former.{oneWake}
 
 -- the bytes of a list, as often as a count says
 unfoldable pub copies : ℕ → List ℕ → List ℕ
@@ -27,6 +30,17 @@ abbrev pub WrittenOut : Type 0
 WrittenOut = (count : ℕ) (p l q : List ℕ) → 0 < count → count < 65536 → 0 < length l → length l + 4 < 65536
     → isEnd (whole p .reason) ≡ true → isEnd (within groupLevels l .reason) ≡ true
     → whole (p ++ groupBytes count l ++ q) ≡ whole (p ++ copies count l ++ q)
+
+-- a list in as many groups, one in the other, each of them run once
+unfoldable pub nested : ℕ → List ℕ → List ℕ
+nested zero l = l
+nested (suc n) l = groupBytes 1 (nested n l)
+
+-- eight levels are read, and a ninth is bad
+abbrev pub EightLevels : Type 0
+EightLevels =
+    (whole (nested 8 oneWake) ≡ record { steps = Wake ∷ []; reason = why.End })
+    × (whole (nested 9 oneWake) ≡ stops why.Bad)
 
 -- bytes that may be such a p and such an l: they read to their end, as a trace and as a group's list
 abbrev pub Writable : List ℕ → Type 0

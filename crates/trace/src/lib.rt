@@ -2,6 +2,7 @@
 use steps::Step;
 ghost use mathlib.Core.Path.{_≡_};
 ghost use Rattle.trace.specs.Trace.{registersOf, recordOf, isKind, groupOf, frameAt, foundAt, passed, KindsAgree};
+ghost use Rattle.trace.specs.Former.{FoundAsFormerly};
 
 // The sizes of the kinds' bodies, where they have any.
 const REGISTERS_SIZE: usize = 28;
@@ -263,6 +264,7 @@ fn read_record(trace: &[u8], at: usize) -> Found
     }
 }
 
+// What was found, passed over.
 fn skip(found: Found) -> Passed
     ensures { λ r. ⌜ r ≡ passed found ⌝ }
 {
@@ -330,7 +332,8 @@ pub fn record_at(trace: &[u8], place: usize) -> Found
     peek(at_place(trace, place))
 }
 
-// No code of the model: it holds the gate to the kinds' numbers.
+// No code of the model: it holds the gate to the kinds' numbers, and to what the reader found before there were groups.
 fn laws()
-    ensures { λ r. ⌜ KindsAgree ⌝ }
+    ensures kinds { λ r. ⌜ KindsAgree ⌝ }
+    ensures formerly { λ r. ⌜ FoundAsFormerly ⌝ }
 {}

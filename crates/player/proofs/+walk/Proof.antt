@@ -66,7 +66,7 @@ walk-anew-requires : Needed walk-lts.Need-anew-requires
 walk-anew-requires t c κs = search needs
 
 walk-records-requires : Needed walk-lts.Need-records-requires
-walk-records-requires t c κs = (c .before .before .before .before .loop .inv .2 .stands .fit .some, c .before .before .before .before .loop .inv .2 .room)
+walk-records-requires t c κs = c .before .before .before .before .loop .inv .2 .room
 
 walk-enum-known-stop : Needed walk-lts.Need-enum-known-stop
 walk-enum-known-stop t c = search needs

@@ -21,7 +21,7 @@ use Rattle.player.proofs.records.Lts as lts
 
 abbrev Inv-loop : tie.InvT-loop
 Inv-loop list from rounds done main₀ management₀ events₀ machine₀ place₀ left₀ count₀ main management events machine place left count =
-    (0 < left) × (count ≤ recordLimit) × (length main ≡ length main₀) × (length management ≡ length management₀)
+    (count ≤ recordLimit) × (length main ≡ length main₀) × (length management ≡ length management₀)
     × Running list place₀ left₀ (state machine₀ (memories main₀ management₀) count₀ events₀) place left (state machine (memories main management) count events)
 
 abbrev μ-loop : tie.MeasureT-loop
@@ -36,11 +36,11 @@ turn : (c : lts.At-loop claims reads.Pre reads.Post Inv-loop μ-loop) (j : lts.J
     → Turned (now (c .before .before .before .before .args .list)) (c .loop .place) (c .loop .left) (j .place) (j .left)
 turn c j =
     ⊎-elim (λ w. turned-again _ _ _ _ _ (w .0 .taken) (omega (arith, w .1 .left)) (w .2) (w .3))
-    (λ w. turned-not _ _ _ _ _ (w .0 .left) (c .loop .inv .0) (w .1) (w .2))
+    (λ w. turned-not _ _ _ _ _ (w .0 .left) (w .1) (w .2))
     (j .came)
 
 loop-holds : tie.Need-loop-holds Inv-loop μ-loop
-loop-holds c = (search needs, search needs, refl, refl, running-all _ _ _ _)
+loop-holds c = (search needs, refl, refl, running-all _ _ _ _)
 
 sub-left : tie.Need-sub-left Inv-loop μ-loop
 sub-left c = search needs
@@ -76,11 +76,10 @@ loop-again c =
     let found = arm .before .before in
     let joined = found .before .before in
     let t = turn (joined .before) (joined .if1) in (
-      t .some,
       search needs,
       search needs,
       search needs,
-      running-turn _ _ _ _ _ _ _ (joined .before .loop .inv .4) _ _ t (omega arith) _ _ (sym (found .record-at .ensures) ∙ arm .step .given .1) _
+      running-turn _ _ _ _ _ _ _ (joined .before .loop .inv .3) _ _ t (omega arith) _ _ (sym (found .record-at .ensures) ∙ arm .step .given .1) _
           (step-on _ _ _ _ _ _ _ (stepped .step2 .ensures) _ (c .before .note .ensures)),
     )
 
@@ -108,7 +107,7 @@ same-length-2 c = search needs
 returns : tie.Need-returns Inv-loop μ-loop
 returns c =
     let at-loop = c .before .before in
-    running-out _ _ _ _ _ _ _ (at-loop .loop .inv .4) _ _
+    running-out _ _ _ _ _ _ _ (at-loop .loop .inv .3) _ _
     (⊎-elim (λ w. stretch-end _ _ _ _ (w .0 .taken) (w .1 .taken) ∙ stopped-as (w .3) (w .4))
     (⊎-elim (λ w. stretch-limit _ _ _ _ _ (turn at-loop (w .0)) _ (omega (arith, w .1 .taken)) ∙ stopped-as (w .3) (w .4))
     (⊎-elim (λ w. stretch-found _ _ _ _ _ (turn at-loop (w .0)) _ (omega (arith, w .1 .left)) _ (sym (w .2 .ensures) ∙ w .4 .given .1) ∙ stopped-as (w .7) (w .8))

@@ -12,6 +12,7 @@ use Rattle.steps.specs.Steps.{kindOf}
 use Rattle.boundaries.proofs.Canonical.{by-cases}
 use Rattle.trace.specs.declared.Found.the-variants.{Record, Bad}
 use Rattle.trace.specs.Trace.{Kind, kinds, registersOf, recordBy, recordOf}
+use Rattle.trace.proofs.Formerly.{found-as-formerly}
 use Rattle.trace.proofs.laws.Statement.{statement}
 use Rattle.trace.proofs.laws.Tie as tie
 
@@ -43,7 +44,7 @@ module _ (number next past : ℕ) (b : List ℕ) (s : Step) where
 
 returns : tie.Need-returns
 unfolding recordOf
-returns c number next past b s e = by-table number next past b s kinds kinds-agree e
+returns c = (λ number next past b s e. by-table number next past b s kinds kinds-agree e, found-as-formerly)
 
 pub laws-spec : {M : Type 1} → statement M
 laws-spec = tie.close (tie.spec returns)
