@@ -9,8 +9,9 @@ use Rattle.lines.specs.declared.Reason.{Reason}
 use Rattle.lines.specs.declared.Reason.the-variants as why
 use Rattle.scripts.specs.Scripts.{recordLimit, Script, stops, joins, limited}
 use Rattle.scripts.proofs.Limits.{ends, limited-joins, limited-all, limited-cut, end-fits, not-end-cut, cut-limit, limited-within}
-use Rattle.player.specs.Walks.{State, after, Goes}
-use Rattle.player.proofs.States.{after-append, after-count}
+use Rattle.records.specs.Stretches.{State, after}
+use Rattle.player.specs.Walks.{Goes}
+use Rattle.records.proofs.States.{after-append, after-count}
 
 -- what a script holds, up to what is left of the limit
 abbrev taken : State → Script → Script

@@ -1,5 +1,4 @@
-pub mod States
-pub mod Stretching
 pub mod Going
+pub mod Playing
 pub mod Walking
 pub mod Replaying

@@ -18,10 +18,11 @@ use Rattle.lines.specs.declared.Reason.the-variants as why
 use Rattle.scripts.specs.Scripts.{recordLimit, groupLevels, Script, isEnd, stops, follows, joins, repeated, grouped, rest, within, whole, limited}
 use Rattle.scripts.proofs.Reading.{found-past, rest-none, rest-found, within-all, within-some, within-holds, repeated-some, part-some, more-left, end-is, false-true}
 use Rattle.scripts.proofs.Limits.{ends, limited-end, limited-stop, limited-none}
-use Rattle.player.specs.declared.Stop.{Stop}
-use Rattle.player.specs.declared.Stop.the-variants.{Group, Leave}
-use Rattle.player.specs.Walks.{State, state, after, Stretch, stopped, over, placeAt, leftAt, stretchBy, stretchFrom, Stretches, Goes, times, admitted, Fit}
-use Rattle.player.proofs.States.{after-count}
+use Rattle.records.specs.declared.Stop.{Stop}
+use Rattle.records.specs.declared.Stop.the-variants.{Group, Leave}
+use Rattle.records.specs.Stretches.{State, state, after, Stretch, stopped, over, placeAt, leftAt, stretchBy, stretchFrom, Stretches}
+use Rattle.player.specs.Walks.{Goes, times, admitted, Fit}
+use Rattle.records.proofs.States.{after-count}
 use Rattle.player.proofs.Going.{goes-room, goes-stops, go-on, after-all, go-past, go-cut}
 
 by-depth : (A : Type 0) (depth : ℕ) → (depth ≤ groupLevels → A) → (groupLevels < depth → A) → A

@@ -1,7 +1,7 @@
 use lines::Reason;
 use machine::Machine;
+use records::Stop;
 use settings::Edition;
-use trace::Found;
 ghost use mathlib.Core.Path.{_≡_};
 ghost use Prim.Native.Nat.{_<_, _≤_};
 ghost use Rattle.memory.specs.Memory.{memories};
@@ -9,9 +9,8 @@ ghost use Rattle.lines.specs.Stores.{Printed};
 ghost use Rattle.player.specs.Output.{replayText, outputOf};
 ghost use Rattle.scripts.specs.Scripts.{recordLimit, within, scriptOf};
 ghost use Rattle.player.specs.Player.{playing, Plays};
-ghost use Rattle.player.specs.Walks.{state, Stretches, Goes, times, admitted, Fit};
-
-const RECORD_LIMIT: usize = 10000;
+ghost use Rattle.records.specs.Stretches.{state};
+ghost use Rattle.player.specs.Walks.{Goes, times, admitted, Fit};
 
 const GROUP_LEVELS: usize = 8;
 
@@ -19,109 +18,6 @@ pub struct Played {
     pub machine: Machine,
     pub count: usize,
     pub reason: Reason,
-}
-
-// What a stretch of records ends at: a group, or a reason to stop.
-enum Stop {
-    Group {
-        rounds: u16,
-        start: usize,
-        next: usize,
-    },
-    Leave {
-        reason: Reason,
-    },
-}
-
-// What a stretch of records leaves; left are the rounds of the list that are not done, the present one among them.
-struct Ran {
-    machine: Machine,
-    count: usize,
-    left: u16,
-    stop: Stop,
-}
-
-// Runs the records from a place of a list on, for as many rounds as are not done, up to a group or a reason to stop. The next round begins
-// in the turn of the loop that runs its first record, so that each turn runs one or leaves. What is noted of each record goes to the list of
-// events. The machine is put together anew, so that the loop doesn't copy the gaps between its fields.
-fn records(
-    list: &[u8],
-    from: usize,
-    rounds: u16,
-    start: Machine,
-    done: usize,
-    main: &mut [u8],
-    management: &mut [u8],
-    events: &mut [u64; 10000],
-) -> Ran
-    requires { ⌜ done ≤ recordLimit ⌝ }
-    ensures { λ r. ⌜ Stretches (now (list .entry)) from rounds
-        (state start (memories (now (main .entry)) (now (management .entry))) done (now (events .entry)))
-        (state (r .machine) (memories (now (main .exit)) (now (management .exit))) (r .count) (now (events .exit))) (r .left) (r .stop) ⌝ }
-{
-    let mut machine = start;
-    let mut place: usize = from;
-    let mut left = rounds;
-    let mut count: usize = done;
-    let stop = loop {
-        if list.len() <= place {
-            if left <= 1 {
-                break Stop::Leave {
-                    reason: Reason::End,
-                };
-            }
-            left -= 1;
-            place = 0;
-        }
-        if RECORD_LIMIT <= count {
-            break Stop::Leave {
-                reason: Reason::Limit,
-            };
-        }
-        match trace::record_at(list, place) {
-            Found::Record { step, next } => {
-                let inside = machine.inside;
-                let stepped = machine.step(main, management, step);
-                let answer = stepped.answer;
-                events[count] = events::note(step, inside, answer);
-                place = next;
-                count += 1;
-                machine = stepped.machine;
-            }
-            Found::Group {
-                count: rounds,
-                start,
-                next,
-            } => {
-                break Stop::Group {
-                    rounds,
-                    start,
-                    next,
-                };
-            }
-            Found::End => {
-                break Stop::Leave {
-                    reason: Reason::End,
-                };
-            }
-            Found::Torn => {
-                break Stop::Leave {
-                    reason: Reason::Torn,
-                };
-            }
-            Found::Bad => {
-                break Stop::Leave {
-                    reason: Reason::Bad,
-                };
-            }
-        }
-    };
-    Ran {
-        machine: machine.anew(),
-        count,
-        left,
-        stop,
-    }
 }
 
 // Whether a group may be run: an outermost one is read through first, and the groups in it have been by then.
@@ -158,7 +54,7 @@ fn walk(
     let mut place: usize = 0;
     let mut left = rounds;
     let reason = loop {
-        let ran = records(
+        let ran = records::run(
             list,
             place,
             left,

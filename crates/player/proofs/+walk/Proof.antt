@@ -1,7 +1,8 @@
 use contract.Lifetimes.{Lfts}
 use borrow.Fn.Kinds.{Dens, Plain}
 use Rattle.player.proofs.Walking.{Walking, walking-all, run-out, group-room, group-bounds, run-unsound, run-fit, run-group, run-further, run-cut, other-tag, from-start}
-use Rattle.player.specs.Walks.{state, after, times}
+use Rattle.records.specs.Stretches.{state, after}
+use Rattle.player.specs.Walks.{times}
 use Rattle.scripts.specs.Scripts.{recordLimit, within, limited}
 use Rattle.memory.specs.Memory.{memories}
 use denote.Ref.{now}
@@ -19,7 +20,7 @@ use Rattle.player.proofs.walk.Kinds as walk-kinds
 use Rattle.player.proofs.+walk.Lts-walk as walk-lts
 use Rattle.machine.proofs.Machine.anew.Reads as anew-reads
 use Rattle.player.proofs.is_admitted.Reads as is-admitted-reads
-use Rattle.player.proofs.records.Reads as records-reads
+use Rattle.records.proofs.run.Reads as run-reads
 use Rattle.player.proofs.+walk.{statement}
 use Rattle.player.proofs.+walk.Tie.{close}
 
@@ -33,7 +34,7 @@ abbrev walk-below : ℕ → In 4 walk-kinds.ps
 walk-below t = and 4 walk-kinds.ps (falls 4 walk-kinds.ps _<_ μ-walk t) walk.Pre
 
 abbrev claims : ℕ → walk-lts.Claims
-claims t = (anew-reads.Asked, anew-reads.Learnt, records-reads.Asked, records-reads.Learnt, is-admitted-reads.Asked, is-admitted-reads.Learnt, walk-below t, walk.Post)
+claims t = (anew-reads.Asked, anew-reads.Learnt, run-reads.Asked, run-reads.Learnt, is-admitted-reads.Asked, is-admitted-reads.Learnt, walk-below t, walk.Post)
 
 abbrev walk-Inv-loop : walk-lts.InvT-loop
 walk-Inv-loop list depth rounds done main₀ management₀ events₀ machine₀ count₀ place₀ left₀ main management events machine count place left =
@@ -57,7 +58,7 @@ bounds : (t : ℕ) (c : walk-lts.After-known-told (claims t) (walk-at t) walk.Po
 bounds t c =
     let ran = c .before .before .before .before .before .before .before .before in
     let loop = ran .before .before .before .before .before .loop in
-    group-bounds (loop .inv .2) (ran .before .before .before .before .anew .ensures) (ran .records .ensures) (c .before .stop .given .1)
+    group-bounds (loop .inv .2) (ran .before .before .before .before .anew .ensures) (ran .run .ensures) (c .before .stop .given .1)
 
 walk-loop-holds : Needed walk-lts.Need-loop-holds
 walk-loop-holds t c = (refl, refl, walking-all _ _ _ _ (c .before .before .before .pre .1 .0) (c .before .before .before .pre .1 .1) _ _ record { state-is = refl; reason-is = refl })
@@ -65,8 +66,8 @@ walk-loop-holds t c = (refl, refl, walking-all _ _ _ _ (c .before .before .befor
 walk-anew-requires : Needed walk-lts.Need-anew-requires
 walk-anew-requires t c κs = search needs
 
-walk-records-requires : Needed walk-lts.Need-records-requires
-walk-records-requires t c κs = c .before .before .before .before .loop .inv .2 .room
+walk-run-requires : Needed walk-lts.Need-run-requires
+walk-run-requires t c κs = search needs
 
 walk-enum-known-stop : Needed walk-lts.Need-enum-known-stop
 walk-enum-known-stop t c = search needs
@@ -105,7 +106,7 @@ walk-walk-requires : Needed walk-lts.Need-walk-requires
 walk-walk-requires t c κs =
     let ran = c .before .before .before .before .before .before .before .before .before .before .before .before .before .before .before .before in
     let loop = ran .before .before .before .before .before .loop in
-    (omega (arith, loop .inv .2 .stands .fit .deep, c .before .before .before .before .before .before .before .before .before .before .before .before .before .before .before .before .before .before .before .before .before .before .before .before .before .pre .0), (run-fit (loop .inv .2) (ran .before .before .before .before .anew .ensures) (ran .records .ensures) (c .before .before .before .before .before .before .before .before .before .stop .given .1) (c .before .before .before .before .before .before .is-admitted .ensures) (not-false _ (c .before .before .before .before .before .if1 .left)), omega (arith, group-room (loop .inv .2) (ran .before .before .before .before .anew .ensures) (ran .records .ensures) (c .before .before .before .before .before .before .before .before .before .stop .given .1))))
+    (omega (arith, loop .inv .2 .stands .fit .deep, c .before .before .before .before .before .before .before .before .before .before .before .before .before .before .before .before .before .before .before .before .before .before .before .before .before .pre .0), (run-fit (loop .inv .2) (ran .before .before .before .before .anew .ensures) (ran .run .ensures) (c .before .before .before .before .before .before .before .before .before .stop .given .1) (c .before .before .before .before .before .before .is-admitted .ensures) (not-false _ (c .before .before .before .before .before .if1 .left)), omega (arith, group-room (loop .inv .2) (ran .before .before .before .before .anew .ensures) (ran .run .ensures) (c .before .before .before .before .before .before .before .before .before .stop .given .1))))
 
 walk-enum-told : Needed walk-lts.Need-enum-told
 walk-enum-told t c = search needs
@@ -114,7 +115,7 @@ walk-loop-less : Needed walk-lts.Need-loop-less
 walk-loop-less t c =
     let ran = c .before .before .before .before .before .before .before .before .before .before .before .before .before .before .before .before .before .before .before .before .before .before .before .before in
     let loop = ran .before .before .before .before .before .loop in
-    omega (arith, run-further (loop .inv .2) (ran .before .before .before .before .anew .ensures) (ran .records .ensures) (c .before .before .before .before .before .before .before .before .before .before .before .before .before .before .before .before .before .stop .given .1) (c .before .before .before .before .before .before .before .before .before .before .before .before .before .before .is-admitted .ensures) (not-false _ (c .before .before .before .before .before .before .before .before .before .before .before .before .before .if1 .left)) (c .before .before .before .before .before .before .before .before .before .before .before .anew2 .ensures) (c .before .before .before .before .before .before .before .walk .ensures) (c .enum-told .given .1), run-group (loop .inv .2) (ran .before .before .before .before .anew .ensures) (ran .records .ensures) (c .before .before .before .before .before .before .before .before .before .before .before .before .before .before .before .before .before .stop .given .1) (c .before .before .before .before .before .before .before .before .before .before .before .before .before .before .is-admitted .ensures) (not-false _ (c .before .before .before .before .before .before .before .before .before .before .before .before .before .if1 .left)) (c .before .before .before .before .before .before .before .before .before .before .before .anew2 .ensures) (c .before .before .before .before .before .before .before .walk .ensures) (c .enum-told .given .1) .room)
+    omega (arith, run-further (loop .inv .2) (ran .before .before .before .before .anew .ensures) (ran .run .ensures) (c .before .before .before .before .before .before .before .before .before .before .before .before .before .before .before .before .before .stop .given .1) (c .before .before .before .before .before .before .before .before .before .before .before .before .before .before .is-admitted .ensures) (not-false _ (c .before .before .before .before .before .before .before .before .before .before .before .before .before .if1 .left)) (c .before .before .before .before .before .before .before .before .before .before .before .anew2 .ensures) (c .before .before .before .before .before .before .before .walk .ensures) (c .enum-told .given .1), run-group (loop .inv .2) (ran .before .before .before .before .anew .ensures) (ran .run .ensures) (c .before .before .before .before .before .before .before .before .before .before .before .before .before .before .before .before .before .stop .given .1) (c .before .before .before .before .before .before .before .before .before .before .before .before .before .before .is-admitted .ensures) (not-false _ (c .before .before .before .before .before .before .before .before .before .before .before .before .before .if1 .left)) (c .before .before .before .before .before .before .before .before .before .before .before .anew2 .ensures) (c .before .before .before .before .before .before .before .walk .ensures) (c .enum-told .given .1) .room)
 
 walk-loop-again : Needed walk-lts.Need-loop-again
 walk-loop-again t c =
@@ -122,7 +123,7 @@ walk-loop-again t c =
     let loop = ran .before .before .before .before .before .loop in (
       omega (arith, c .before .before .before .before .before .before .main2 .given, c .before .before .before .before .before .before .before .before .before .before .before .before .before .before .before .before .before .before .before .before .before .before .before .main .given, loop .inv .0),
       omega (arith, c .before .before .before .before .management2 .given, c .before .before .before .before .before .before .before .before .before .before .before .before .before .before .before .before .before .before .before .before .before .management .given, loop .inv .1),
-      run-group (loop .inv .2) (ran .before .before .before .before .anew .ensures) (ran .records .ensures) (c .before .before .before .before .before .before .before .before .before .before .before .before .before .before .before .before .before .stop .given .1) (c .before .before .before .before .before .before .before .before .before .before .before .before .before .before .is-admitted .ensures) (not-false _ (c .before .before .before .before .before .before .before .before .before .before .before .before .before .if1 .left)) (c .before .before .before .before .before .before .before .before .before .before .before .anew2 .ensures) (c .before .before .before .before .before .before .before .walk .ensures) (c .enum-told .given .1),
+      run-group (loop .inv .2) (ran .before .before .before .before .anew .ensures) (ran .run .ensures) (c .before .before .before .before .before .before .before .before .before .before .before .before .before .before .before .before .before .stop .given .1) (c .before .before .before .before .before .before .before .before .before .before .before .before .before .before .is-admitted .ensures) (not-false _ (c .before .before .before .before .before .before .before .before .before .before .before .before .before .if1 .left)) (c .before .before .before .before .before .before .before .before .before .before .before .anew2 .ensures) (c .before .before .before .before .before .before .before .walk .ensures) (c .enum-told .given .1),
     )
 
 walk-enum-known-stop-2 : Needed walk-lts.Need-enum-known-stop-2
@@ -138,7 +139,7 @@ walk-returns : Needed walk-lts.Need-returns
 walk-returns t c =
     let ran = c .before .before .before .before .before .before .before .before .before .before .before in
     let loop = ran .before .before .before .before .before .loop in
-    from-start (run-unsound (loop .inv .2) (ran .before .before .before .before .anew .ensures) (ran .records .ensures) (c .before .before .before .before .stop .given .1) (c .before .is-admitted .ensures) (not-true _ (c .if1 .taken)))
+    from-start (run-unsound (loop .inv .2) (ran .before .before .before .before .anew .ensures) (ran .run .ensures) (c .before .before .before .before .stop .given .1) (c .before .is-admitted .ensures) (not-true _ (c .if1 .taken)))
 
 walk-same-length-3 : Needed walk-lts.Need-same-length-3
 walk-same-length-3 t c = omega (arith, c .before .before .before .before .before .main2 .given, c .before .before .before .before .before .before .before .before .before .before .before .before .before .before .before .before .before .before .before .before .before .before .main .given, c .before .before .before .before .before .before .before .before .before .before .before .before .before .before .before .before .before .before .before .before .before .before .before .before .before .before .before .before .loop .inv .0)
@@ -150,7 +151,7 @@ walk-returns-2 : Needed walk-lts.Need-returns-2
 walk-returns-2 t c =
     let ran = c .before .before .before .before .before .before .before .before .before .before .before .before .before .before .before .before .before .before .before .before .before .before .before in
     let loop = ran .before .before .before .before .before .loop in
-    from-start (run-cut (loop .inv .2) (ran .before .before .before .before .anew .ensures) (ran .records .ensures) (c .before .before .before .before .before .before .before .before .before .before .before .before .before .before .before .before .stop .given .1) (c .before .before .before .before .before .before .before .before .before .before .before .before .before .is-admitted .ensures) (not-false _ (c .before .before .before .before .before .before .before .before .before .before .before .before .if1 .left)) (c .before .before .before .before .before .before .before .before .before .before .anew2 .ensures) (c .before .before .before .before .before .before .walk .ensures) (λ e. other-tag (rw e at (c .match2 .keys2))))
+    from-start (run-cut (loop .inv .2) (ran .before .before .before .before .anew .ensures) (ran .run .ensures) (c .before .before .before .before .before .before .before .before .before .before .before .before .before .before .before .before .stop .given .1) (c .before .before .before .before .before .before .before .before .before .before .before .before .before .is-admitted .ensures) (not-false _ (c .before .before .before .before .before .before .before .before .before .before .before .before .if1 .left)) (c .before .before .before .before .before .before .before .before .before .before .anew2 .ensures) (c .before .before .before .before .before .before .walk .ensures) (λ e. other-tag (rw e at (c .match2 .keys2))))
 
 walk-same-length-5 : Needed walk-lts.Need-same-length-5
 walk-same-length-5 t c = search needs
@@ -162,7 +163,7 @@ walk-returns-3 : Needed walk-lts.Need-returns-3
 walk-returns-3 t c =
     let ran = c .before .before .before .before .before .before .before .before in
     let loop = ran .before .before .before .before .before .loop in
-    from-start (run-out (loop .inv .2) (ran .before .before .before .before .anew .ensures) (ran .records .ensures) (c .before .stop2 .given .1))
+    from-start (run-out (loop .inv .2) (ran .before .before .before .before .anew .ensures) (ran .run .ensures) (c .before .stop2 .given .1))
 
 pub +walk-spec : {M : Type 1} → statement M
 +walk-spec = close μ-walk λ t. walk-lts.spec (claims t)
@@ -172,7 +173,7 @@ pub +walk-spec : {M : Type 1} → statement M
     walk-μ-loop
     (walk-loop-holds t)
     (walk-anew-requires t)
-    (walk-records-requires t)
+    (walk-run-requires t)
     (walk-enum-known-stop t)
     (walk-sub-is-admitted t)
     (walk-part-is-admitted-start t)

@@ -1,5 +1,5 @@
 use denote.Ref.{now}
-use Rattle.player.proofs.States.{plays}
+use Rattle.player.proofs.Playing.{plays}
 use Rattle.player.proofs.Walking.{trace-fit, trace-once}
 use borrow.Author.Needs.{needs}
 use Rattle.player.proofs.play.Statement.{statement}

@@ -1,27 +1,27 @@
 use mathlib.Core.Path.{_≡_, refl, sym, _∙_}
 use mathlib.Core.Logic.{⊎-elim}
-use Prim.Native.Nat.{_-_, _<_, _≤_}
+use Prim.Native.Nat.{_-_}
 use native.Mathlib.Omega.{arith}
 use borrow.Author.Needs.{needs}
 use denote.Ref.{now}
 use lib.ListN.{length}
 use Rattle.memory.specs.Memory.{memories}
 use Rattle.scripts.specs.Scripts.{recordLimit}
-use Rattle.player.specs.Walks.{state}
-use Rattle.player.proofs.States.{step-on}
-use Rattle.player.proofs.Stretching.{Turned, turned-again, turned-not, stretch-end, stretch-limit, stretch-found, stopped-as, Running, running-all, running-turn, running-out}
-use Rattle.player.proofs.records.Statement.{statement}
-use Rattle.player.proofs.records.Tie as tie
-use Rattle.player.proofs.records.Reads as reads
+use Rattle.records.specs.Stretches.{state}
+use Rattle.records.proofs.States.{step-on}
+use Rattle.records.proofs.Stretching.{Turned, turned-again, turned-not, stretch-end, stretch-limit, stretch-found, stopped-as, Running, running-all, running-turn, running-out}
+use Rattle.records.proofs.run.Statement.{statement}
+use Rattle.records.proofs.run.Tie as tie
+use Rattle.records.proofs.run.Reads as reads
 use Rattle.events.proofs.note.Reads as note-reads
 use Rattle.machine.proofs.Machine.anew.Reads as anew-reads
 use Rattle.machine.proofs.Machine.step.Reads as step-reads
 use Rattle.trace.proofs.record_at.Reads as record-at-reads
-use Rattle.player.proofs.records.Lts as lts
+use Rattle.records.proofs.run.Lts as lts
 
 abbrev Inv-loop : tie.InvT-loop
 Inv-loop list from rounds done main₀ management₀ events₀ machine₀ place₀ left₀ count₀ main management events machine place left count =
-    (count ≤ recordLimit) × (length main ≡ length main₀) × (length management ≡ length management₀)
+    (length main ≡ length main₀) × (length management ≡ length management₀)
     × Running list place₀ left₀ (state machine₀ (memories main₀ management₀) count₀ events₀) place left (state machine (memories main management) count events)
 
 abbrev μ-loop : tie.MeasureT-loop
@@ -40,7 +40,7 @@ turn c j =
     (j .came)
 
 loop-holds : tie.Need-loop-holds Inv-loop μ-loop
-loop-holds c = (search needs, refl, refl, running-all _ _ _ _)
+loop-holds c = (refl, refl, running-all _ _ _ _)
 
 sub-left : tie.Need-sub-left Inv-loop μ-loop
 sub-left c = search needs
@@ -78,8 +78,7 @@ loop-again c =
     let t = turn (joined .before) (joined .if1) in (
       search needs,
       search needs,
-      search needs,
-      running-turn _ _ _ _ _ _ _ (joined .before .loop .inv .3) _ _ t (omega arith) _ _ (sym (found .record-at .ensures) ∙ arm .step .given .1) _
+      running-turn _ _ _ _ _ _ _ (joined .before .loop .inv .2) _ _ t (omega arith) _ _ (sym (found .record-at .ensures) ∙ arm .step .given .1) _
           (step-on _ _ _ _ _ _ _ (stepped .step2 .ensures) _ (c .before .note .ensures)),
     )
 
@@ -107,7 +106,7 @@ same-length-2 c = search needs
 returns : tie.Need-returns Inv-loop μ-loop
 returns c =
     let at-loop = c .before .before in
-    running-out _ _ _ _ _ _ _ (at-loop .loop .inv .3) _ _
+    running-out _ _ _ _ _ _ _ (at-loop .loop .inv .2) _ _
     (⊎-elim (λ w. stretch-end _ _ _ _ (w .0 .taken) (w .1 .taken) ∙ stopped-as (w .3) (w .4))
     (⊎-elim (λ w. stretch-limit _ _ _ _ _ (turn at-loop (w .0)) _ (omega (arith, w .1 .taken)) ∙ stopped-as (w .3) (w .4))
     (⊎-elim (λ w. stretch-found _ _ _ _ _ (turn at-loop (w .0)) _ (omega (arith, w .1 .left)) _ (sym (w .2 .ensures) ∙ w .4 .given .1) ∙ stopped-as (w .7) (w .8))
@@ -117,8 +116,8 @@ returns c =
     (c .before .if1 .came))
     _ (c .anew .ensures)
 
-pub records-spec : {M : Type 1} → statement M
-records-spec =
+pub run-spec : {M : Type 1} → statement M
+run-spec =
     tie.close
     (tie.spec
     Inv-loop

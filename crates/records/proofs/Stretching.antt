@@ -13,9 +13,9 @@ use Rattle.trace.specs.declared.Found.the-variants as found
 use Rattle.trace.specs.Trace.{foundAt}
 use Rattle.lines.specs.declared.Reason.the-variants as why
 use Rattle.scripts.specs.Scripts.{recordLimit}
-use Rattle.player.specs.declared.Stop.{Stop}
-use Rattle.player.specs.declared.Stop.the-variants.{Leave}
-use Rattle.player.specs.Walks.{State, state, stepOn, after, Stretch, stopped, over, placeAt, leftAt, stretchBy, stretchFrom, Stretches}
+use Rattle.records.specs.declared.Stop.{Stop}
+use Rattle.records.specs.declared.Stop.the-variants.{Leave}
+use Rattle.records.specs.Stretches.{State, state, stepOn, after, Stretch, stopped, over, placeAt, leftAt, stretchBy, stretchFrom, Stretches}
 
 -- ---- from the tests that the code makes
 
