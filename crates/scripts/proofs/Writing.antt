@@ -17,7 +17,7 @@ use Rattle.trace.proofs.Placing.{foundOn, Closed, between, part-on, found-on}
 use Rattle.lines.specs.declared.Reason.the-variants as why
 use Rattle.scripts.specs.Scripts.{Script, groupLevels, isEnd, stops, follows, joins, repeated, grouped, readBy, readFrom, rest, within}
 use Rattle.scripts.specs.Former.{oneWake}
-use Rattle.scripts.specs.Written.{copies, groupBytes, nested, Concatenates, WrittenOut, EightLevels, Writable}
+use Rattle.scripts.specs.Written.{copies, groupBytes, nested, Concatenates, WrittenOut, EightLevels, Writable, Written, CountsWritten}
 use Rattle.scripts.proofs.Reading.{rest-found, false-true}
 
 -- from the last place of a list back to its first
@@ -202,12 +202,12 @@ written-out count p l q some few held small i j =
     let d = groupLevels in
     let e = level d l j in
     ap (λ (m : List ℕ). rest (within d) m 0) (append-assoc p (groupBytes count l) q)
-    ∙ both (within d) p (groupBytes count l ++ q) i
+    ∙ concatenates d p (groupBytes count l ++ q) i
     ∙ ap (joins (rest (within d) p 0 .steps))
     (read-group count l q some few held small (within d) j
     ∙ ap (λ (u : Script). joins (repeated count (u .steps)) (rest (within d) q 0)) (sym e)
     ∙ sym (read-copies (within d) l q (ap (λ (u : Script). isEnd (u .reason)) e ∙ j) count))
-    ∙ sym (both (within d) p (copies count l ++ q) i)
+    ∙ sym (concatenates d p (copies count l ++ q) i)
     ∙ ap (λ (m : List ℕ). rest (within d) m 0) (sym (append-assoc p (copies count l) q))
 
 -- ---- the examples
@@ -219,3 +219,10 @@ one-wake-writable = (refl, refl)
 pub eight-levels : EightLevels
 unfolding nested groupBytes bytesOf repeated within readFrom foundAt frameAt framed groupOf recordOf recordBy numberBy
 eight-levels = (refl, refl)
+
+-- the laws are used here, so that they can't ask for more
+pub counts-written : CountsWritten
+counts-written = (at 1 (omega arith) (omega arith), at 65535 (omega arith) (omega arith))
+  where
+    at : (count : ℕ) → 0 < count → count < 65536 → Written count
+    at count h k = written-out count oneWake oneWake oneWake h k (omega arith) (omega arith) (one-wake-writable .0) (one-wake-writable .1)

@@ -45,3 +45,10 @@ EightLevels =
 -- bytes that may be such a p and such an l: they read to their end, as a trace and as a group's list
 abbrev pub Writable : List ℕ → Type 0
 Writable l = (isEnd (whole l .reason) ≡ true) × (isEnd (within groupLevels l .reason) ≡ true)
+
+-- between two wakes, a group that has a wake is it written out: for the smallest count and the largest
+abbrev pub Written : ℕ → Type 0
+Written count = whole (oneWake ++ groupBytes count oneWake ++ oneWake) ≡ whole (oneWake ++ copies count oneWake ++ oneWake)
+
+abbrev pub CountsWritten : Type 0
+CountsWritten = Written 1 × Written 65535

@@ -3,7 +3,7 @@ use trace::Passed;
 ghost use mathlib.Core.Path.{_≡_};
 ghost use Rattle.scripts.specs.Scripts.{isEnd, within, Unbounded};
 ghost use Rattle.scripts.specs.Former.{UpToGroups, Groupless, SameAsFormerly, oneWake};
-ghost use Rattle.scripts.specs.Written.{Concatenates, WrittenOut, Writable, EightLevels};
+ghost use Rattle.scripts.specs.Written.{Concatenates, WrittenOut, Writable, CountsWritten, EightLevels};
 
 // Whether a group's list is read to its end, where as many levels as depth are left, its own among them.
 pub fn is_sound(list: &[u8], depth: usize) -> bool
@@ -46,5 +46,6 @@ fn laws()
     ensures concatenates { λ r. ⌜ Concatenates ⌝ }
     ensures written { λ r. ⌜ WrittenOut ⌝ }
     ensures writable { λ r. ⌜ Writable oneWake ⌝ }
+    ensures counts { λ r. ⌜ CountsWritten ⌝ }
     ensures levels { λ r. ⌜ EightLevels ⌝ }
 {}
