@@ -14,8 +14,8 @@ use Rattle.fields.proofs.Storing.{stored-byte}
 use Rattle.header.specs.declared.Level.{Level}
 use Rattle.header.specs.declared.Level.the-variants.{Zero, One, Two, Three}
 use Rattle.header.specs.declared.Saved.{Saved}
-use Rattle.header.specs.Header.{Word, depth, contents, upward, levelNumber, levelOf, wordsBytes, headerBytes, headed, wordIn, resumed}
-use Rattle.header.specs.ReadBack.{TableFills, SavedFits, WordsReadBack, RegistersReadBack}
+use Rattle.header.specs.Header.{Word, depth, contents, upward, levelNumber, levelOf, wordsBytes, headerBytes, headed, wordIn, resumed, nestedIn}
+use Rattle.header.specs.ReadBack.{TableFills, SavedFits, WordsReadBack, RegistersReadBack, NestedReadBack}
 
 -- each word begins four bytes below those above it
 abbrev stacked : List Word → Bool
@@ -78,7 +78,7 @@ module _ (s : Saved) (f : SavedFits s) where
   fits Word.CsLevel = let a = f .registers .selector in let b = level-small (s .registers .level) in omega arith
   fits Word.DescriptorHigh = let a = f .registers .descriptor in omega arith
   fits Word.DescriptorLow = omega arith
-  fits Word.Flags = omega (arith, bit-small (s .registers .writable), bit-small (s .trap .output), bit-small (s .trap .rep), bit-small (s .smint), bit-small (s .halted))
+  fits Word.Flags = omega (arith, bit-small (s .registers .writable), bit-small (s .trap .output), bit-small (s .trap .rep), bit-small (s .smint), bit-small (s .halted), bit-small (s .nested))
   fits Word.PortSize = f .transfer
   fits Word.OutputData = f .value
   fits Word.StringIndex = f .index
@@ -116,14 +116,19 @@ unfolding resumed
 registers-back g at s h f =
     let r = s .registers in
     let b = back s f g at h in
-    let t = s .trap in
     let k = level-small (r .level) in
     let m = f .registers .selector in
     let selector : (r .cs .selector + 2097152 * levelNumber (r .level)) % 65536 ≡ r .cs .selector = omega arith in
     let level : (r .cs .selector + 2097152 * levelNumber (r .level)) / 2097152 % 4 ≡ levelNumber (r .level)
     = let q : (r .cs .selector + 2097152 * levelNumber (r .level)) / 2097152 ≡ levelNumber (r .level) = omega arith in rw q (omega arith) in
     let descriptor : r .cs .descriptor % 4294967296 + 4294967296 * (r .cs .descriptor / 4294967296) ≡ r .cs .descriptor = omega arith in
-    let c : (bit (r .writable) + 2 * bit (t .output) + 4 * bit (t .rep) + 8 * bit (s .smint) + 16 * bit (s .halted)) % 2 ≡ bit (r .writable)
-    = omega (arith, bit-small (r .writable)) in
+    let c : contents s Word.Flags % 2 ≡ bit (r .writable) = omega (arith, bit-small (r .writable)) in
     rw (b Word.NextIp, b Word.Eflags, b Word.Cr0, b Word.Dr7, b Word.CsLevel, b Word.DescriptorLow, b Word.DescriptorHigh, b Word.Flags)
     (rw (selector, level, descriptor, c, level-back (r .level), bit-back (r .writable)))
+
+pub nested-back : NestedReadBack
+nested-back g at s h f =
+    let t = s .trap in
+    let n : contents s Word.Flags / 32768 % 2 ≡ bit (s .nested)
+    = omega (arith, bit-small (s .registers .writable), bit-small (t .output), bit-small (t .rep), bit-small (s .smint), bit-small (s .halted), bit-small (s .nested)) in
+    rw (back s f g at h Word.Flags, n) (bit-back (s .nested))

@@ -1,4 +1,4 @@
--- 01, "Forty-eight bytes below the top", and 02, request 3: the twelve words of the header, and what RSM reads back from them.
+-- 01, "Forty-eight bytes below the top", and 02, requests 3 and 7: the twelve words of the header, and what RSM reads back from them.
 use Prim.Native.Nat.{ℕ, _+_, _*_, _/_, _%_, _-_}
 use mathlib.Core.Bool.{Bool, true, false, cond}
 use mathlib.Core.List.{List, [], _∷_, map, flatMap}
@@ -50,11 +50,11 @@ trapOf (StringOutput t i) = trap true false (portSize t) (cut t) i
 trapOf (RepInput i) = trap false true 0 0 i
 trapOf (RepOutput t i) = trap true true (portSize t) (cut t) i
 
--- What entry at a boundary records. Current IP is the address that the boundary gives, but EIP on a halted machine. Next IP is EIP, but for a
+-- What entry at a boundary records, halted or not, inside the mode or outside it. Current IP is the address that the boundary gives, but EIP on a halted machine. Next IP is EIP, but for a
 -- REP form it is current IP: 01 has EIP for every boundary, and 02, request 3, mends that (000, section 3.3.1). A halted machine meets no REP
 -- form: that is malformed.
-abbrev pub boundarySaved : Registers → Bool → ℕ → Interruption → Saved
-boundarySaved r halted current i =
+abbrev pub boundarySaved : Registers → Bool → Bool → ℕ → Interruption → Saved
+boundarySaved r halted inside current i =
     let ip = cond halted (r .eip) current in
     record {
       registers = r;
@@ -63,11 +63,13 @@ boundarySaved r halted current i =
       trap = trapOf i;
       smint = false;
       halted = halted;
+      nested = inside;
     }
 
--- What entry by SMINT records. Next IP is the step's next address; current IP is EIP.
+-- What entry by SMINT records. Next IP is the step's next address; current IP is EIP. It comes from outside: inside SMINT is invalid.
 abbrev pub smintSaved : Registers → Bool → ℕ → Saved
-smintSaved r halted next = record { registers = r; current = r .eip; next = next; trap = trapOf None; smint = true; halted = halted }
+smintSaved r halted next =
+    record { registers = r; current = r .eip; next = next; trap = trapOf None; smint = true; halted = halted; nested = false }
 
 -- the header's length, in bytes
 abbrev pub headerLength : ℕ
@@ -93,7 +95,7 @@ depth OutputData = 0x2c
 depth StringIndex = 0x30
 
 -- its second column: what each word holds. The flags word has C (the code segment is writable) in bit 0, then I (output), P
--- (REP form), S (SMINT) and H (halted).
+-- (REP form), S (SMINT) and H (halted), and N in bit 15: entry came from inside the mode (02, request 7).
 abbrev pub contents : Saved → Word → ℕ
 contents s Dr7 = s .registers .dr7
 contents s Eflags = s .registers .eflags
@@ -105,6 +107,7 @@ contents s DescriptorHigh = s .registers .cs .descriptor / 4294967296
 contents s DescriptorLow = s .registers .cs .descriptor % 4294967296
 contents s Flags =
     bit (s .registers .writable) + 2 * bit (s .trap .output) + 4 * bit (s .trap .rep) + 8 * bit (s .smint) + 16 * bit (s .halted)
+    + 32768 * bit (s .nested)
 contents s PortSize = s .trap .transfer
 contents s OutputData = s .trap .value
 contents s StringIndex = s .trap .index
@@ -145,6 +148,10 @@ resumed g at = record {
   level = levelOf (wordIn g at CsLevel / 2097152 % 4);
   writable = eqb (wordIn g at Flags % 2) 1;
 }
+
+-- 02, request 7: N of the header
+abbrev pub nestedIn : List ℕ → ℕ → Bool
+nestedIn g at = eqb (wordIn g at Flags / 32768 % 2) 1
 
 -- the same registers with another EIP
 abbrev pub withEip : Registers → ℕ → Registers

@@ -5,7 +5,7 @@ use mathlib.Core.List.{List}
 use lib.ListN.{length, getD}
 use Rattle.header.specs.declared.Registers.{Registers}
 use Rattle.header.specs.declared.Saved.{Saved}
-use Rattle.header.specs.Header.{headerLength, Word, depth, contents, upward, headed, wordIn, resumed, withEip}
+use Rattle.header.specs.Header.{headerLength, Word, depth, contents, upward, headed, wordIn, resumed, nestedIn, withEip}
 use Rattle.header.specs.Header.Word.{Dr7}
 
 -- The words fill the 48 bytes below the end: the k-th upward begins 4 k above the first. (Said by an addition, since a subtraction stops at 0.)
@@ -39,3 +39,8 @@ abbrev pub RegistersReadBack : Type 0
 RegistersReadBack =
     (g : List ℕ) (at : ℕ) (s : Saved) → at + headerLength ≤ length g → SavedFits s
     → resumed (headed g at s) at ≡ withEip (s .registers) (s .next)
+
+-- and finds whether entry came from inside the mode (02, request 7)
+abbrev pub NestedReadBack : Type 0
+NestedReadBack =
+    (g : List ℕ) (at : ℕ) (s : Saved) → at + headerLength ≤ length g → SavedFits s → nestedIn (headed g at s) at ≡ s .nested

@@ -4,8 +4,8 @@ ghost use mathlib.Core.List.{map};
 ghost use Prim.Native.Nat.{_+_, _*_, _<_, _≤_};
 ghost use lib.ListN.{length};
 ghost use lib.Seq.{sets};
-ghost use Rattle.header.specs.Header.{levelNumber, levelOf, sizeBits, portSize, cut, trap, trapOf, boundarySaved, smintSaved, contents, upward, wordsBytes, headed, resumed};
-ghost use Rattle.header.specs.ReadBack.{TableFills, SavedFits, WordsReadBack, RegistersReadBack};
+ghost use Rattle.header.specs.Header.{levelNumber, levelOf, sizeBits, portSize, cut, trap, trapOf, boundarySaved, smintSaved, contents, upward, wordsBytes, headed, resumed, nestedIn};
+ghost use Rattle.header.specs.ReadBack.{TableFills, SavedFits, WordsReadBack, RegistersReadBack, NestedReadBack};
 ghost use Rattle.header.specs.Entry.{entryCs, entryRegisters};
 use memory::Segment;
 use steps::Interruption;
@@ -47,6 +47,7 @@ pub struct Saved {
     pub trap: Trap,
     pub smint: bool,
     pub halted: bool,
+    pub nested: bool,
 }
 
 pub fn level_number(level: Level) -> u32
@@ -145,10 +146,11 @@ fn trap_of(i: Interruption) -> Trap
 pub fn saved_at_boundary(
     registers: Registers,
     halted: bool,
+    inside: bool,
     current: u32,
     interruption: Interruption,
 ) -> Saved
-    ensures { λ r. ⌜ r ≡ boundarySaved registers halted current interruption ⌝ }
+    ensures { λ r. ⌜ r ≡ boundarySaved registers halted inside current interruption ⌝ }
 {
     let trap = trap_of(interruption);
     let current = fields::either(halted, registers.eip, current);
@@ -159,6 +161,7 @@ pub fn saved_at_boundary(
         trap: trap,
         smint: false,
         halted: halted,
+        nested: inside,
     }
 }
 
@@ -174,6 +177,7 @@ pub fn saved_by_smint(registers: Registers, halted: bool, next: u32) -> Saved
         trap: trap,
         smint: true,
         halted: halted,
+        nested: false,
     }
 }
 
@@ -190,7 +194,8 @@ fn words_of(s: Saved) -> [u32; 12]
         + 2 * fields::flag(t.output)
         + 4 * fields::flag(t.rep)
         + 8 * fields::flag(s.smint)
-        + 16 * fields::flag(s.halted);
+        + 16 * fields::flag(s.halted)
+        + 32768 * fields::flag(s.nested);
     [
         t.index,
         t.value,
@@ -256,6 +261,13 @@ pub fn read(management: &[u8], at: u32) -> Registers
     }
 }
 
+// Whether the header at a place of management memory is of an entry from inside the mode.
+pub fn is_nested(management: &[u8], at: u32) -> bool
+    ensures { λ r. ⌜ r ≡ nestedIn (now (management .entry)) at ⌝ }
+{
+    fields::word(management, at as usize + 12) / 32768 % 2 == 1
+}
+
 // CS after entry to a region at a base.
 fn entry_cs(base: u32) -> Segment
     ensures { λ r. ⌜ r ≡ entryCs base ⌝ }
@@ -293,4 +305,5 @@ fn laws()
     ensures fills { λ r. ⌜ TableFills ⌝ }
     ensures words { λ r. ⌜ WordsReadBack ⌝ }
     ensures registers { λ r. ⌜ RegistersReadBack ⌝ }
+    ensures nested { λ r. ⌜ NestedReadBack ⌝ }
 {}

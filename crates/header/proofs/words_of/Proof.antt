@@ -44,23 +44,32 @@ mul-flags-4 c = search needs
 add-flags-4 : tie.Need-add-flags-4
 add-flags-4 c = search needs
 
+flag-requires-6 : tie.Need-flag-requires-6
+flag-requires-6 c κs = search needs
+
+mul-flags-5 : tie.Need-mul-flags-5
+mul-flags-5 c = search needs
+
+add-flags-5 : tie.Need-add-flags-5
+add-flags-5 c = search needs
+
 cast-t8 : tie.Need-cast-t8
 cast-t8 c = search needs
 
-cast-t19 : tie.Need-cast-t19
-cast-t19 c = search needs
+cast-t22 : tie.Need-cast-t22
+cast-t22 c = search needs
 
-cast-t18 : tie.Need-cast-t18
-cast-t18 c = search needs
+cast-t21 : tie.Need-cast-t21
+cast-t21 c = search needs
 
-mul-t17 : tie.Need-mul-t17
-mul-t17 c = search needs
+mul-t20 : tie.Need-mul-t20
+mul-t20 c = search needs
 
-add-t16 : tie.Need-add-t16
-add-t16 c = search needs
+add-t19 : tie.Need-add-t19
+add-t19 c = search needs
 
 returns : tie.Need-returns
-returns c = rw ((c .before .before .before .before .before .before .before .before .level-number .ensures .0), (c .before .before .before .before .before .before .before .flag .ensures .0), (c .before .before .before .before .before .before .flag2 .ensures .0), (c .before .before .before .before .before .flag3 .ensures .0), (c .before .before .before .before .flag4 .ensures .0), (c .before .before .before .flag5 .ensures .0))
+returns c = rw ((c .before .before .before .before .before .before .before .before .before .level-number .ensures .0), (c .before .before .before .before .before .before .before .before .flag .ensures .0), (c .before .before .before .before .before .before .before .flag2 .ensures .0), (c .before .before .before .before .before .before .flag3 .ensures .0), (c .before .before .before .before .before .flag4 .ensures .0), (c .before .before .before .before .flag5 .ensures .0), (c .before .before .before .flag6 .ensures .0))
 
 pub words-of-spec : {M : Type 1} → statement M
 words-of-spec =
@@ -80,9 +89,12 @@ words-of-spec =
     flag-requires-5
     mul-flags-4
     add-flags-4
+    flag-requires-6
+    mul-flags-5
+    add-flags-5
     cast-t8
-    cast-t19
-    cast-t18
-    mul-t17
-    add-t16
+    cast-t22
+    cast-t21
+    mul-t20
+    add-t19
     returns)
