@@ -191,9 +191,11 @@ impl Machine {
     fn entered(self, latched: bool) -> Machine
         ensures { λ r. ⌜ r ≡ enteredMachine self latched ⌝ }
     {
-        let area = self.settings().region();
+        let settings = self.settings();
+        let area = settings.region();
         let before = self.registers;
-        let mut next = self.with_registers(header::entry_registers(before, area.base));
+        let mut next = self.with_registers(header::entry_registers(before, area.base))
+            .with_settings(nesting::entered(settings));
         next.halted = false;
         next.inside = true;
         next.latched = latched;
@@ -219,7 +221,13 @@ impl Machine {
             ≡ entryAtBoundary self (memories main (now (management .entry))) current interruption) ⌝ }
     {
         let registers = self.registers;
-        let saved = header::saved_at_boundary(registers, self.halted, current, interruption);
+        let saved = header::saved_at_boundary(
+            registers,
+            self.halted,
+            self.inside,
+            current,
+            interruption,
+        );
         self.enter(management, saved, false)
     }
 
@@ -227,10 +235,7 @@ impl Machine {
     fn is_taken(self, asserted: bool) -> bool
         ensures { λ r. ⌜ r ≡ taken self asserted ⌝ }
     {
-        if self.inside {
-            return false;
-        }
-        if self.settings().enables_smi() {
+        if nesting::takes_smi(self.settings(), self.inside) {
             return fields::any(asserted, self.latched);
         }
         false
@@ -265,10 +270,14 @@ impl Machine {
     fn resume(self, management: &[u8]) -> Stepped
         ensures { λ r. ⌜ r ≡ resume self (now (management .entry)) ⌝ }
     {
-        let registers = header::read(management, self.settings().header_place());
-        let mut next = self.with_registers(registers);
+        let settings = self.settings();
+        let at = settings.header_place();
+        let registers = header::read(management, at);
+        let nested = header::is_nested(management, at);
+        let mut next = self.with_registers(registers)
+            .with_settings(nesting::resumed(settings));
         next.halted = false;
-        next.inside = false;
+        next.inside = nesting::stays_inside(settings, nested);
         next.answers(Answer::Resumed)
     }
 

@@ -2,33 +2,28 @@ use Rattle.machine.specs.Service.{enteredMachine}
 use borrow.Author.Needs.{needs}
 use Rattle.machine.proofs.Machine.entered.Statement.{statement}
 use Rattle.machine.proofs.Machine.entered.Tie as tie
-use Rattle.machine.proofs.Machine.entered.Reads as reads
-use Rattle.machine.proofs.Machine.entered.Lts as lts
-use Rattle.settings.proofs.Settings.region.Reads as region-reads
-use Rattle.header.proofs.entry_registers.Reads as entry-registers-reads
-use Rattle.machine.proofs.Machine.settings.Reads as settings-reads
-use Rattle.machine.proofs.Machine.with_registers.Reads as with-registers-reads
 
--- src/lib.rt:262:20
 settings-requires : tie.Need-settings-requires
 settings-requires c κs = search needs
 
--- src/lib.rt:262:13
 region-requires : tie.Need-region-requires
 region-requires c κs = search needs
 
--- src/lib.rt:264:44
 entry-registers-requires : tie.Need-entry-registers-requires
 entry-registers-requires c κs = search needs
 
--- src/lib.rt:264:13
 with-registers-requires : tie.Need-with-registers-requires
 with-registers-requires c κs = search needs
 
--- src/lib.rt:259:5
+entered-requires : tie.Need-entered-requires
+entered-requires c κs = search needs
+
+with-settings-requires : tie.Need-with-settings-requires
+with-settings-requires c κs = search needs
+
 returns : tie.Need-returns
 unfolding enteredMachine
-returns c = rw ((c .with-registers .ensures), (c .before .entry-registers .ensures), (c .before .before .before .region .ensures), (c .before .before .before .before .settings .ensures))
+returns c = rw ((c .with-settings .ensures), (c .before .entered .ensures), (c .before .before .with-registers .ensures), (c .before .before .before .entry-registers .ensures), (c .before .before .before .before .before .region .ensures), (c .before .before .before .before .before .before .settings .ensures))
 
 pub entered-spec : {M : Type 1} → statement M
 entered-spec =
@@ -38,4 +33,6 @@ entered-spec =
     region-requires
     entry-registers-requires
     with-registers-requires
+    entered-requires
+    with-settings-requires
     returns)

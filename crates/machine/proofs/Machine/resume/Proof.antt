@@ -2,38 +2,37 @@ use Rattle.machine.specs.Service.{resume}
 use borrow.Author.Needs.{needs}
 use Rattle.machine.proofs.Machine.resume.Statement.{statement}
 use Rattle.machine.proofs.Machine.resume.Tie as tie
-use Rattle.machine.proofs.Machine.resume.Reads as reads
-use Rattle.machine.proofs.Machine.resume.Lts as lts
-use Rattle.settings.proofs.Settings.header_place.Reads as header-place-reads
-use Rattle.header.proofs.read.Reads as read-reads
-use Rattle.machine.proofs.Machine.answers.Reads as answers-reads
-use Rattle.machine.proofs.Machine.settings.Reads as settings-reads
-use Rattle.machine.proofs.Machine.with_registers.Reads as with-registers-reads
 
--- src/lib.rt:352:50
 settings-requires : tie.Need-settings-requires
 settings-requires c κs = search needs
 
--- src/lib.rt:352:50
 header-place-requires : tie.Need-header-place-requires
 header-place-requires c κs = search needs
 
--- src/lib.rt:352:13
 read-requires : tie.Need-read-requires
 read-requires c κs = search needs
 
--- src/lib.rt:353:13
+is-nested-requires : tie.Need-is-nested-requires
+is-nested-requires c κs = search needs
+
 with-registers-requires : tie.Need-with-registers-requires
 with-registers-requires c κs = search needs
 
--- src/lib.rt:356:9
+resumed-requires : tie.Need-resumed-requires
+resumed-requires c κs = search needs
+
+with-settings-requires : tie.Need-with-settings-requires
+with-settings-requires c κs = search needs
+
+stays-inside-requires : tie.Need-stays-inside-requires
+stays-inside-requires c κs = search needs
+
 answers-requires : tie.Need-answers-requires
 answers-requires c κs = search needs
 
--- src/lib.rt:349:5
 returns : tie.Need-returns
 unfolding resume
-returns c = rw ((c .answers .ensures), (c .before .with-registers .ensures), (c .before .before .read .ensures), (c .before .before .before .header-place .ensures), (c .before .before .before .before .settings .ensures))
+returns c = rw ((c .answers .ensures), (c .before .stays-inside .ensures), (c .before .before .with-settings .ensures), (c .before .before .before .resumed .ensures), (c .before .before .before .before .with-registers .ensures), (c .before .before .before .before .before .is-nested .ensures), (c .before .before .before .before .before .before .read .ensures), (c .before .before .before .before .before .before .before .header-place .ensures), (c .before .before .before .before .before .before .before .before .settings .ensures))
 
 pub resume-spec : {M : Type 1} → statement M
 resume-spec =
@@ -42,6 +41,10 @@ resume-spec =
     settings-requires
     header-place-requires
     read-requires
+    is-nested-requires
     with-registers-requires
+    resumed-requires
+    with-settings-requires
+    stays-inside-requires
     answers-requires
     returns)
