@@ -1,6 +1,6 @@
 -- The later core without its news does what the 486 one does. Assumes nothing.
 use mathlib.Core.Path.{_≡_, refl}
-use mathlib.Core.Bool.{Bool, true, false, _&&_, or-false}
+use mathlib.Core.Bool.{Bool, true, false, _&&_, and-false, or-false}
 use Prim.Native.Nat.{ℕ, _+_}
 use lib.Dec.{eqb}
 use borrow.Author.Tests.{eqb-true, ne-eqb}
@@ -15,11 +15,14 @@ use Rattle.refusals.specs.declared.Verdict.{Verdict}
 use Rattle.refusals.specs.declared.Verdict.the-variants.{Refused, Allowed}
 use Rattle.settings.specs.declared.Edition.the-variants.{Cx486, Mii}
 use Rattle.settings.specs.declared.Settings.{Settings}
-use Rattle.settings.specs.Settings.{mapen, smhr, regionIn, windowOf, headerEnd, headerFits, headerPlace, enabled, opcodesAllowed, byteOf, withByte, laterBits, lockedBits, keptBits, written, withSmhr}
+use Rattle.nesting.specs.Nesting.{smmMode, enhanced, enteredSettings, resumedSettings, nestable, takes, staysInside}
+use Rattle.settings.specs.Settings.{isMii, mapen, smhr, regionIn, windowOf, headerEnd, headerFits, headerPlace, enabled, opcodesAllowed, byteOf, withByte, laterBits, lockedBits, keptBits, written, withSmhr}
+use Rattle.nesting.proofs.Moving.{nothing-moves}
 use Rattle.config.specs.declared.Config.{Config}
 use Rattle.config.specs.declared.Accessed.{Accessed}
 use Rattle.config.specs.Ports.{alwaysInternal, internal, answering, indexed, portRead, portWrite}
 use Rattle.header.specs.declared.Saved.{Saved}
+use Rattle.header.specs.Header.{nestedIn}
 use Rattle.segments.specs.declared.SegmentName.{SegmentName}
 use Rattle.opcodes.specs.declared.Operation.{Operation}
 use Rattle.opcodes.specs.declared.Operation.the-variants.{Save, Restore, Rdshr, Wrshr, Smint, Rsm, Undefined}
@@ -129,7 +132,30 @@ same-segment m = by-name (λ n. segmentIn (as486 m) n ≡ segmentIn m n) refl re
 with-segment : (m : Machine) (x : Segment) (name : SegmentName) → withSegment (as486 m) name x ≡ as486 (withSegment m name x)
 with-segment m x = by-name (λ n. withSegment (as486 m) n x ≡ as486 (withSegment m n x)) refl refl refl refl refl refl refl refl
 
-module _ (m : Machine) (x : Memories) (later : editionOf m ≡ Mii)
+-- with SMM_MODE 0 nothing nests
+not-enhanced : (s : Settings) → smmMode s ≡ false → enhanced s ≡ false
+unfolding enhanced
+not-enhanced s zero = rw zero (and-false (isMii (s .edition)))
+
+module _ (s : Settings) (zero : smmMode s ≡ false) where
+  abbrev t : Settings
+  t = settings486 s
+
+  same-entered : enteredSettings t ≡ settings486 (enteredSettings s)
+  same-entered = rw (nothing-moves s (not-enhanced s zero) .0, nothing-moves t (not-enhanced t zero) .0)
+
+  same-resumed : resumedSettings t ≡ settings486 (resumedSettings s)
+  same-resumed = rw (nothing-moves s (not-enhanced s zero) .1, nothing-moves t (not-enhanced t zero) .1)
+
+  same-stays : (n : Bool) → staysInside t n ≡ staysInside s n
+  unfolding staysInside
+  same-stays n = rw (not-enhanced s zero, not-enhanced t zero)
+
+  same-takes : enabled t ≡ enabled s → (inside : Bool) → takes t inside ≡ takes s inside
+  unfolding takes nestable
+  same-takes e inside = rw (e, not-enhanced s zero, not-enhanced t zero)
+
+module _ (m : Machine) (x : Memories) (later : editionOf m ≡ Mii) (zero : smmMode (settingsOf m) ≡ false)
     (end : smhr (settingsOf m) ≡ regionIn (settingsOf m) .base + sizeOf (regionIn (settingsOf m) .code)) where
   same-window : window (as486 m) ≡ window m
   unfolding windowOf
@@ -137,7 +163,7 @@ module _ (m : Machine) (x : Memories) (later : editionOf m ≡ Mii)
 
   same-entry : (s : Saved) (latched : Bool) → Same (entry (as486 m) x s latched) (entry m x s latched)
   unfolding entry enteredMachine
-  same-entry s latched = rw (same-place (settingsOf m) later end)
+  same-entry s latched = rw (same-place (settingsOf m) later end, same-entered (settingsOf m) zero)
 
   same-operated : (o : Operation) (a next : ℕ) → Same (operated (as486 m) x o a next) (operated m x o a next)
   unfolding operated saved restored smhrStored smhrLoaded withSmhr resume
@@ -146,7 +172,8 @@ module _ (m : Machine) (x : Memories) (later : editionOf m ≡ Mii)
   same-operated Rdshr a next = rw same-window
   same-operated Wrshr a next = rw same-window
   same-operated Smint a next = same-entry _ _
-  same-operated Rsm a next = rw (same-place (settingsOf m) later end)
+  same-operated Rsm a next =
+      rw (same-place (settingsOf m) later end, same-resumed (settingsOf m) zero, same-stays (settingsOf m) zero (nestedIn (x .management) (headerPlace (settingsOf m))))
   same-operated Undefined a next = refl
 
   same-valid : (o : Operation) → valid (as486 m) o ≡ valid m o
@@ -170,7 +197,7 @@ module _ (m : Machine) (x : Memories) (later : editionOf m ≡ Mii)
   unfolding boundaryStep taken passed
   same-boundary asserted current i =
       let Turn : Stepped → Stepped → Type 0 = λ r t. Same (ends r x) (ends t x) in
-      rw (same-enabled (settingsOf m) later end)
+      rw (same-takes (settingsOf m) zero (same-enabled (settingsOf m) later end) (m .inside))
       (both Same (taken m asserted) {v = ends (passed m asserted) x} (λ h. same-entry _ _)
       (λ h. both Turn asserted (λ k. both Turn (m .inside) (λ n. refl) (λ n. refl)) (λ k. refl)))
 
@@ -195,7 +222,7 @@ module _ (m : Machine) (x : Memories) (later : editionOf m ≡ Mii)
 
 pub same-without-news : SameWithoutNews
 unfolding stepped
-same-without-news m x s later off end h = same-decided m x later end off s (firstRefusal (m .halted) x s) h
+same-without-news m x s later off zero end h = same-decided m x later zero end off s (firstRefusal (m .halted) x s) h
 
 -- ---- the steps that it speaks of
 

@@ -3,7 +3,6 @@ use mathlib.Core.Path.{_≡_, refl}
 use mathlib.Core.Bool.{Bool, true, false, cond, not, _&&_, _||_, and-false, and-eq-true-iff}
 use Prim.Native.Nat.{ℕ}
 use lib.Dec.{eqb}
-use borrow.Author.Tests.{not-true}
 use Rattle.region.specs.Region.{usable}
 use Rattle.memory.specs.Memory.{Memories, Reached, allThere, there, reads, writes}
 use Rattle.steps.specs.declared.Answer.{Answer}
@@ -17,6 +16,7 @@ use Rattle.refusals.specs.Refusals.{wrongSizes, malformedOn, programWhileHalted
 use Rattle.refusals.proofs.Laws.{Taken}
 use Rattle.settings.specs.Settings.{useSmi, regionIn, headerFits, enabled, opcodesAllowed, smac}
 use Rattle.settings.proofs.Place.{enabled-has}
+use Rattle.nesting.specs.Nesting.{nestable, takes}
 use Rattle.opcodes.specs.declared.Operation.{Operation}
 use Rattle.opcodes.specs.declared.Operation.the-variants.{Save, Restore, Rdshr, Wrshr, Smint, Rsm, Undefined}
 use Rattle.opcodes.specs.Decode.{operationOf, operandSize}
@@ -32,6 +32,7 @@ use Rattle.isolation.specs.Service.Entering.{at-boundary, by-smint}
 use Rattle.isolation.specs.Service.Resuming.{by-rsm}
 use Rattle.isolation.proofs.Answers.{Plain, plain, read-keeps, write-keeps, passes}
 use Rattle.isolation.proofs.Cases.{both, across, either, unlike}
+use Rattle.isolation.proofs.Nesting.{takes-where}
 
 -- what holds wherever a step enters
 pub record Able (m : Machine) (x : Memories) : Type 0 where
@@ -49,13 +50,12 @@ pub data Does (m : Machine) (x : Memories) (s : Step) : Outcome → ℕ → Type
 
 -- where an SMI is taken
 pub taken-where : (m : Machine) (asserted : Bool) → taken m asserted ≡ true
-    → (m .inside ≡ false) × (enabled (settingsOf m) ≡ true) × ((asserted || m .latched) ≡ true)
+    → (enabled (settingsOf m) ≡ true) × (m .inside ≡ true → nestable (settingsOf m) ≡ true) × ((asserted || m .latched) ≡ true)
 unfolding taken
 taken-where m asserted e =
-    let on = enabled (settingsOf m) in
-    let p = and-eq-true-iff (not (m .inside) && on) (asserted || m .latched) .0 e in
-    let q = and-eq-true-iff (not (m .inside)) on .0 (p .0) in
-    (not-true (m .inside) (q .0), q .1, p .1)
+    let p = and-eq-true-iff (takes (settingsOf m) (m .inside)) (asserted || m .latched) .0 e in
+    let q = takes-where (settingsOf m) (m .inside) (p .0) in
+    (q .0, q .1, p .1)
 
 module _ (m : Machine) (x : Memories) where
   -- a valid operation whose operand is there
@@ -85,7 +85,7 @@ module _ (m : Machine) (x : Memories) where
   unfolding boundaryStep
   boundary-does smi current i z =
       either (λ (o : Outcome). Does m x (Boundary smi current i) o 0) (taken m (eqb smi 1))
-      (λ k. let t = taken-where m (eqb smi 1) k in Does.enters (at-boundary (t .0) (t .1) (t .2)) (enabled-able z (t .1)))
+      (λ k. let t = taken-where m (eqb smi 1) k in Does.enters (at-boundary (t .0) (t .1) (t .2)) (enabled-able z (t .0)))
       (λ k. Does.neither _ (passes m (eqb smi 1) .0))
 
   performed-does : (s : Step) → Taken (m .halted) x s

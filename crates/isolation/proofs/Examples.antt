@@ -21,7 +21,7 @@ use Rattle.refusals.specs.Refusals.{wrongSizes, malformedOn, programWhileHalted
 use Rattle.refusals.proofs.Laws.{taken-allowed}
 use Rattle.settings.specs.declared.Edition.{Edition}
 use Rattle.settings.specs.declared.Edition.the-variants.{Cx486, Mii}
-use Rattle.settings.specs.Settings.{windowOf, headerEnd, headerFits, headerPlace, enabled, opcodesAllowed, withSmhr}
+use Rattle.settings.specs.Settings.{windowOf, headerEnd, headerFits, headerPlace, enabled, opcodesAllowed, withByte, withSmhr}
 use Rattle.config.specs.Ports.{internal, alwaysInternal}
 use Rattle.header.specs.Header.{trapOf}
 use Rattle.opcodes.specs.declared.Operation.the-variants.{Smint}
@@ -38,6 +38,7 @@ use Rattle.isolation.specs.Service.{Entering, PointersBy}
 use Rattle.isolation.specs.Service.Entering.{at-boundary, by-smint}
 use Rattle.isolation.specs.Isolation.{NoReset, UpToEntry, lastNumber}
 use Rattle.isolation.specs.Examples.{sampleSettings, sample, locked, underSmac, filled, stepsToEntry, rsm, IsolationExamples, EntryExample, SmintExamples, BoundaryExample, byteOut, BoundaryExamples, RefusalExamples, LaterExamples, AlikeExample}
+use Rattle.isolation.proofs.Cases.{unlike}
 use Rattle.isolation.proofs.Service.{performs, answered-allowed, enters-where-due, resumes-as-stated, resumes-as-entered}
 use Rattle.isolation.proofs.Pointers.{pointers-as-stated}
 use Rattle.isolation.proofs.Tightness.{no-reset-asked, up-to-entry-asked}
@@ -60,7 +61,7 @@ header-fits Mii ccr1 ccr3 = refl
 
 due-at-boundary : (e : Edition) (halted : Bool) (i : Interruption) → Entering (withHalted (locked e) halted) (met i)
 unfolding enabled usable regionOf sizeOf
-due-at-boundary e halted i = at-boundary refl (rw (header-fits e 0x02 0x01)) refl
+due-at-boundary e halted i = at-boundary (rw (header-fits e 0x02 0x01)) (λ h. unlike h refl) refl
 
 is-smint : (e : Edition) → operationOf e (smintOpcode e) 0 ≡ Smint
 unfolding operationOf
@@ -142,8 +143,8 @@ later-examples =
     (refl, c .0, c .1, c .2, c .3, refl, refl, refl, refl, refl)
 
 pub alike-example : AlikeExample
-unfolding enabled headerFits headerEnd usable regionOf sizeOf withSmhr
-alike-example = record { off = refl; end = refl; on = (refl, refl) }
+unfolding enabled headerFits headerEnd usable regionOf sizeOf withSmhr withByte
+alike-example = record { off = refl; mode = refl; end = refl; on = (refl, refl) }
 
 flat-fits : SegmentFits (resetSegments .ds)
 unfolding numberBy

@@ -25,6 +25,7 @@ use Rattle.settings.specs.Settings.{smac, smiLock, enabled, headerPlace, SameLo
 use Rattle.settings.specs.Locked.{Fixed, SettingsFit}
 use Rattle.settings.proofs.Lock.{locked-refl, locked-trans, same-smac, same-lock, locked-as-listed}
 use Rattle.settings.proofs.Place.{same-place, window-shut, enabled-has, place-room}
+use Rattle.nesting.specs.Nesting.{enteredSettings}
 use Rattle.header.specs.Header.{headerLength, headed, headerBytes}
 use Rattle.header.specs.declared.Saved.{Saved}
 use Rattle.opcodes.specs.declared.Operation.{Operation}
@@ -41,6 +42,7 @@ use Rattle.isolation.specs.Service.{OnlyHeader}
 use Rattle.isolation.specs.Isolation.{Start, NoReset, UpToEntry, lastNumber, SameHeader, Agree, Isolated, throughEntry, SameAnswers}
 use Rattle.isolation.proofs.Answers.{read-keeps, write-keeps, passes}
 use Rattle.isolation.proofs.Cases.{both}
+use Rattle.isolation.proofs.Nesting.{entered-edition, entered-fixed}
 use Rattle.isolation.proofs.Doing.{taken-where}
 use Rattle.isolation.proofs.Entering.{only-header}
 
@@ -55,8 +57,8 @@ record One (start : Machine) (g h : List ℕ) (o p : Outcome) : Type 0 where
   pub same : o .stepped ≡ p .stepped
   pub main : o .memory .main ≡ p .memory .main
   pub edition : editionOf (o .stepped .machine) ≡ editionOf start
-  pub settings : Fixed (editionOf start) (settingsOf (o .stepped .machine)) (settingsOf start)
   pub before : (numberOf (o .stepped .answer) ≡ 11 → ⊥) → (o .memory .management ≡ g) × (p .memory .management ≡ h) × Held start (o .stepped .machine)
+  pub moved : numberOf (o .stepped .answer) ≡ 11 → Fixed (editionOf start) (settingsOf (o .stepped .machine)) (enteredSettings (settingsOf start))
   pub entered : numberOf (o .stepped .answer) ≡ 11 → SameHeader start g h (o .memory .management) (p .memory .management)
 
 alike : (halted : Bool) (main g h : List ℕ) (s : Step) → length g ≡ length h
@@ -78,14 +80,16 @@ module _ (start : Machine) (from : Start start) (g h : List ℕ) (main : List �
   -- a step that leaves management memory as it was
   quiet : (r : Stepped) (a : List ℕ) → eqb (numberOf (r .answer)) 11 ≡ false → Held start (r .machine)
       → P (ends r (memories a g)) (ends r (memories a h))
-  quiet r a e held = record {
-    same = refl;
-    main = refl;
-    edition = held .settings .edition;
-    settings = fixed start (r .machine) from held;
-    before = λ n. (refl, refl, held);
-    entered = λ n. absurd (eqb-false (numberOf (r .answer)) 11 e n);
-  }
+  quiet r a e held =
+      let not = eqb-false (numberOf (r .answer)) 11 e in
+      record {
+        same = refl;
+        main = refl;
+        edition = held .settings .edition;
+        before = λ n. (refl, refl, held);
+        moved = λ n. absurd (not n);
+        entered = λ n. absurd (not n);
+      }
 
   module _ (m : Machine) (held : Held start m) where
     lock : smiLock (settingsOf m) ≡ true
@@ -154,9 +158,9 @@ module _ (start : Machine) (from : Start start) (g h : List ℕ) (main : List �
           record {
             same = refl;
             main = refl;
-            edition = held .settings .edition;
-            settings = fixed start m from held;
+            edition = entered-edition (settingsOf m) ∙ held .settings .edition;
             before = λ n. absurd (n refl);
+            moved = λ n. entered-fixed (editionOf start) (settingsOf m) (settingsOf start) (held .settings .edition) refl (fixed start m from held);
             entered = λ n. record { saved = s; first = moved g (omega arith); second = moved h (omega arith) };
           }
 
@@ -166,7 +170,7 @@ module _ (start : Machine) (from : Start start) (g h : List ℕ) (main : List �
       boundary-one asserted current i =
           let p = passes m asserted in
           both P (taken m asserted)
-          (λ k. entry-one (savedAtBoundary m current i) false (taken-where m asserted k .1))
+          (λ k. entry-one (savedAtBoundary m current i) false (taken-where m asserted k .0))
           (λ k. quiet (passed m asserted) main (p .0 .other) (rw (p .1 (held .outside)) held))
 
       performed-one : (s : Step) → (s ≡ Reset → ⊥) → P (performed m (memories main g) s) (performed m (memories main h) s)
@@ -211,8 +215,9 @@ module _ (start : Machine) (from : Start start) (g h : List ℕ) (equal : length
         machine = c .machine;
         main = c .main;
         edition = c .edition;
-        settings = c .settings;
+        kept = λ n. c .kept (λ k. n (l ∙ k));
         before = λ n. c .before (λ k. n (l ∙ k));
+        moved = λ n. c .moved (sym l ∙ n);
         entered = λ n. c .entered (sym l ∙ n);
       }
 
@@ -243,8 +248,9 @@ module _ (start : Machine) (from : Start start) (g h : List ℕ) (equal : length
     machine = a .machine;
     main = a .main;
     edition = held .settings .edition;
-    settings = fixed start m from held;
+    kept = λ k. fixed start m from held;
     before = λ k. (a .first, a .second);
+    moved = λ k. absurd (omega arith);
     entered = λ k. absurd (omega arith);
   }
   all (s ∷ []) m n x y a held none up =
@@ -254,8 +260,9 @@ module _ (start : Machine) (from : Start start) (g h : List ℕ) (equal : length
         machine = ap (λ (r : Stepped). r .machine) (c .same);
         main = c .main;
         edition = c .edition;
-        settings = c .settings;
+        kept = λ k. fixed start (stepped m x s .stepped .machine) from (c .before k .2);
         before = λ k. let b = c .before k in (b .0, b .1);
+        moved = c .moved;
         entered = c .entered;
       }
   all (s ∷ t ∷ ss) m n x y a held none up =

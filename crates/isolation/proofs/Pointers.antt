@@ -46,7 +46,7 @@ rep-awake true smi current i formed e = unlike (rw (rep-interrupts i e) (or-true
 -- a boundary enters in one way
 at-one : (m : Machine) {smi current : ℕ} {i : Interruption} (by : Entering m (Boundary smi current i))
     → recorded m by ≡ savedAtBoundary m current i
-at-one m (at-boundary outside on asked) = refl
+at-one m (at-boundary on inner asked) = refl
 
 -- each word that it writes is found
 word-back : (m : Machine) (x : Memories) (smi current : ℕ) (i : Interruption) → MachineFits m → StepFits (Boundary smi current i)

@@ -1,10 +1,11 @@
 -- Demand 2. Assumes nothing.
-use mathlib.Core.Path.{_≡_, refl, ap, _∙_}
-use mathlib.Core.Bool.{true, false}
+use mathlib.Core.Path.{_≡_, refl, sym, ap, _∙_}
+use mathlib.Core.Bool.{Bool, true, false, not, _&&_, and-false, and-eq-true-iff}
 use Prim.Native.Nat.{ℕ, _+_, _*_, _^_, _<_}
 use native.Mathlib.Omega.{arith}
 use lib.Dec.{eqb}
 use lib.Seq.{length-sets}
+use borrow.Author.Tests.{not-true}
 use Rattle.memory.specs.Memory.{Memories, allThere}
 use Rattle.steps.specs.declared.Transfer.{Transfer}
 use Rattle.steps.specs.declared.Interruption.{Interruption}
@@ -19,10 +20,12 @@ use Rattle.refusals.proofs.Laws.{taken-allowed, by-verdict}
 use Rattle.settings.specs.declared.Edition.{Edition}
 use Rattle.settings.specs.declared.Edition.the-variants.{Cx486, Mii}
 use Rattle.settings.specs.Settings.{headerFits, headerPlace, opcodesAllowed}
+use Rattle.nesting.specs.Nesting.{enhanced, enteredSettings, nestable, staysInside}
+use Rattle.nesting.proofs.Moving.{last-moves}
 use Rattle.header.specs.Header.{sizeBits, portSize, cut, trapOf, headerBytes, headed}
 use Rattle.header.specs.Entry.{entryRegisters}
 use Rattle.header.specs.ReadBack.{SavedFits}
-use Rattle.header.proofs.ReadBack.{registers-back}
+use Rattle.header.proofs.ReadBack.{registers-back, nested-back}
 use Rattle.opcodes.specs.declared.Operation.the-variants.{Rsm}
 use Rattle.opcodes.specs.Decode.{operationOf}
 use Rattle.machine.specs.declared.Machine.{Machine}
@@ -35,6 +38,7 @@ use Rattle.isolation.specs.Service.{answerTo, Entering, recorded, latchA
 use Rattle.isolation.specs.Service.Entering.{at-boundary, by-smint}
 use Rattle.isolation.specs.Service.Resuming.{by-rsm}
 use Rattle.isolation.proofs.Cases.{either}
+use Rattle.isolation.proofs.Nesting.{entered-place, entered-fits, entered-opcodes, entered-enhanced, takes-is, nestable-enhanced}
 use Rattle.isolation.proofs.Doing.{Able}
 use Rattle.isolation.proofs.Entering.{only-header, room, enters, resumes}
 
@@ -54,7 +58,8 @@ answered-allowed m x s =
 
 pub enters-where-due : EntersWhereDue
 unfolding performed boundaryStep taken opcodeStep operationOn withOperand operated allThere entry
-enters-where-due m x s may (at-boundary {smi} {current} {i} outside on asked) = rw (performs m x (Boundary smi current i) may, outside, on, asked)
+enters-where-due m x s may (at-boundary {smi} {current} {i} on inner asked) =
+    rw (performs m x (Boundary smi current i) may, takes-is (settingsOf m) (m .inside) on inner, asked)
 enters-where-due m x s may (by-smint {op} {modrm} {a} {next} d v) = rw (performs m x (Opcode op modrm a next) may, d, v)
 
 pub resumes-where-due : ResumesWhereDue
@@ -129,7 +134,7 @@ trap-fits (RepInput index) f = (omega arith, omega arith, f)
 trap-fits (RepOutput t index) f = (transfer-fits t (f .0), cut-fits t (f .0), f .1)
 
 pub recorded-fits : (m : Machine) {s : Step} (by : Entering m s) → MachineFits m → StepFits s → SavedFits (recorded m by)
-recorded-fits m (at-boundary {smi} {current} {i} outside on asked) f w =
+recorded-fits m (at-boundary {smi} {current} {i} on inner asked) f w =
     let r = f .registers in
     let k = trap-fits i (w .2) in
     let P : ℕ → Type 0 = λ n. n < 2 ^ 32 in
@@ -150,12 +155,24 @@ recorded-fits m (by-smint {op} {modrm} {a} {next} d v) f w =
 
 -- a step enters in one way only, and records the registers
 same-registers : (m : Machine) {s : Step} (by : Entering m s) → recorded m by .registers ≡ m .registers
-same-registers m (at-boundary outside on asked) = refl
+same-registers m (at-boundary on inner asked) = refl
 same-registers m (by-smint d v) = refl
 
 same-next : (m : Machine) {s : Step} (by by′ : Entering m s) → recorded m by .next ≡ recorded m by′ .next
 same-next m (at-boundary o n k) (at-boundary o′ n′ k′) = refl
 same-next m (by-smint d v) (by-smint d′ v′) = refl
+
+-- RSM stays inside by what entry recorded exactly if entry came from there
+back-where : (m : Machine) {s : Step} (by : Entering m s) → staysInside (enteredSettings (settingsOf m)) (recorded m by .nested) ≡ m .inside
+unfolding staysInside valid
+back-where m (at-boundary on inner asked) = rw (entered-enhanced (settingsOf m)) (go (m .inside) inner)
+  where
+    go : (b : Bool) → (b ≡ true → nestable (settingsOf m) ≡ true) → (enhanced (settingsOf m) && b) ≡ b
+    go true h = rw (nestable-enhanced (settingsOf m) (h refl))
+    go false h = and-false (enhanced (settingsOf m))
+back-where m (by-smint d v) =
+    let outside = and-eq-true-iff (not (m .inside)) (headerFits (settingsOf m)) .0 (and-eq-true-iff (permitted m) _ .0 v .1) .0 in
+    and-false (enhanced (enteredSettings (settingsOf m))) ∙ sym (not-true (m .inside) outside)
 
 is-rsm : (e : Edition) (modrm : ℕ) → operationOf e 0xaa modrm ≡ Rsm
 unfolding operationOf
@@ -182,22 +199,29 @@ module _ (m : Machine) (x : Memories) (s : Step) (by by′ : Entering m s) (able
 
   may-resume : permitted (inside .stepped .machine) ≡ true
   unfolding permitted opcodesAllowed entry enteredMachine entryRegisters
-  may-resume = rw (able .on, able .usable)
+  may-resume = rw (entered-opcodes (settingsOf m), able .on, able .usable)
+
+  fits-kept : headerFits (settingsOf (inside .stepped .machine)) ≡ true
+  unfolding entry enteredMachine
+  fits-kept = rw (entered-fits (settingsOf m)) (able .fits)
 
   resume-stated : Resume m s by′ inside (stepped (inside .stepped .machine) (inside .memory) (Opcode 0xaa modrm a next))
   unfolding entry enteredMachine resume
   resume-stated =
-      rw (rsm-resumes (inside .stepped .machine) (inside .memory) modrm a next sizes-kept refl refl may-resume (able .fits))
+      rw (rsm-resumes (inside .stepped .machine) (inside .memory) modrm a next sizes-kept refl refl may-resume fits-kept)
       (record {
         answer = refl;
         registers =
-            registers-back (x .management) (headerPlace (settingsOf m)) (recorded m by) (room m x able) fits
-            ∙ rw (same-registers m by, same-next m by by′);
+            rw (entered-place (settingsOf m))
+            (registers-back (x .management) (headerPlace (settingsOf m)) (recorded m by) (room m x able) fits
+            ∙ rw (same-registers m by, same-next m by by′));
         halted = refl;
-        inside = refl;
+        inside =
+            rw (entered-place (settingsOf m), nested-back (x .management) (headerPlace (settingsOf m)) (recorded m by) (room m x able) fits)
+            (back-where m by);
         latched = refl;
         segments = refl;
-        config = refl;
+        config = rw (last-moves (settingsOf m) .0);
         memory = refl;
       })
 

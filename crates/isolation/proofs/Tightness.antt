@@ -146,5 +146,6 @@ agreement-determines m g h a b c = record {
         second-is c (sets h at bytes) (header-determines h (b .memory .management) at bytes (k .second)),
       );
   editions = (c .edition, rw (← c .machine) (c .edition));
-  settings = (c .settings, rw (← c .machine) (c .settings));
+  kept = λ n. (c .kept n, rw (← c .machine) (c .kept n));
+  moved = λ e. (c .moved e, rw (← c .machine) (c .moved e));
 }

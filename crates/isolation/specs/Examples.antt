@@ -17,9 +17,10 @@ use Rattle.refusals.specs.Refusals.{firstRefusal}
 use Rattle.settings.specs.declared.Edition.{Edition}
 use Rattle.settings.specs.declared.Edition.the-variants.{Cx486, Mii}
 use Rattle.region.specs.Region.{sizeOf}
-use Rattle.settings.specs.Settings.{smiLock, mapen, regionIn, smhr, headerPlace, enabled, withSmhr, withEdition}
+use Rattle.settings.specs.Settings.{smiLock, mapen, regionIn, smhr, headerPlace, enabled, withByte, withSmhr, withEdition}
 use Rattle.settings.specs.declared.Settings.{Settings}
 use Rattle.config.specs.Ports.{internal}
+use Rattle.nesting.specs.Nesting.{smmMode}
 use Rattle.opcodes.specs.Decode.{smintOpcode}
 use Rattle.machine.specs.declared.Machine.{Machine}
 use Rattle.segments.specs.Segments.{resetSegments}
@@ -149,11 +150,12 @@ LaterExamples =
     × (internal (sampleSettings Mii 0x02 0x31) 0xb0 ≡ false)
     × (internal (sampleSettings Cx486 0x02 0x11) 0xb0 ≡ false)
 
--- settings with SMHR at the region's end and MAPEN off, where SMIs are enabled in either edition
+-- settings with SMHR at the region's end, MAPEN off and SMM_MODE 0, where SMIs are enabled in either edition
 abbrev pub alike : Settings
-alike = withSmhr (sampleSettings Mii 0x02 0x01) 0x6c000
+alike = withByte (withSmhr (sampleSettings Mii 0x02 0x01) 0x6c000) 0xea 0x40
 
 pub record AlikeExample : Type 0 where
   pub off : mapen alike ≡ false
+  pub mode : smmMode alike ≡ false
   pub end : smhr alike ≡ regionIn alike .base + sizeOf (regionIn alike .code)
   pub on : (enabled alike ≡ true) × (enabled (withEdition alike Cx486) ≡ true)

@@ -1,8 +1,8 @@
 -- Demand 3. Take a machine of either edition that is outside management mode with SMI_LOCK set and SMAC clear, a main memory, and two
 -- management memories of one size. Give both the same list of steps, none of them a reset. Up to and including the first step that either
 -- answers with "entered", answers, machines and main memories are the same in both, the edition and its locked settings are as at the
--- start, and each management memory is as it was at its own start, but for the 48 bytes that entry writes at the edition's header place,
--- which are the same in both.
+-- start, but that entry may clear N (02, request 7), and each management memory is as it was at its own start, but for the 48 bytes that
+-- entry writes at the edition's header place, which are the same in both.
 use Prim.Native.Nat.{ℕ, _-_, _<_, suc}
 use mathlib.Core.Path.{_≡_}
 use mathlib.Core.Bool.{true, false, cond}
@@ -17,6 +17,7 @@ use Rattle.steps.specs.declared.Step.the-variants.{Reset, Wake}
 use Rattle.steps.specs.Answers.{numberOf}
 use Rattle.settings.specs.Settings.{smiLock, smac, headerPlace}
 use Rattle.settings.specs.Locked.{Fixed, SettingsFit}
+use Rattle.nesting.specs.Nesting.{enteredSettings}
 use Rattle.header.specs.declared.Saved.{Saved}
 use Rattle.header.specs.Header.{headerBytes}
 use Rattle.machine.specs.declared.Machine.{Machine}
@@ -57,8 +58,11 @@ pub record Agree (m : Machine) (g h : List ℕ) (a b : Run) : Type 0 where
   pub machine : a .machine ≡ b .machine
   pub main : a .memory .main ≡ b .memory .main
   pub edition : editionOf (a .machine) ≡ editionOf m
-  pub settings : Fixed (editionOf m) (settingsOf (a .machine)) (settingsOf m)
+  -- before entry
+  pub kept : (lastNumber (answersOf a) ≡ 11 → ⊥) → Fixed (editionOf m) (settingsOf (a .machine)) (settingsOf m)
   pub before : (lastNumber (answersOf a) ≡ 11 → ⊥) → (a .memory .management ≡ g) × (b .memory .management ≡ h)
+  -- at entry
+  pub moved : lastNumber (answersOf a) ≡ 11 → Fixed (editionOf m) (settingsOf (a .machine)) (enteredSettings (settingsOf m))
   pub entered : lastNumber (answersOf a) ≡ 11 → SameHeader m g h (a .memory .management) (b .memory .management)
 
 -- the claim: any such machine, memories and list of steps; after any number k of the steps, of which none is a reset

@@ -1,6 +1,7 @@
 -- Demand 2: which steps enter, what entry writes and loads, which steps resume and what they load, and what RSM right after entry loads back.
 -- "Entered" is answer 11, "resumed" 12. All of it is said of any machine: its edition decides where the header lies, whether it fits, and which
--- byte is SMINT (02, request 1). At the end, where RSM goes after a REP form (02, request 3).
+-- byte is SMINT (02, request 1), and with SMM_MODE whether service nests (02, request 7). At the end, where RSM goes after a REP form (02,
+-- request 3).
 use Prim.Native.Nat.{ℕ, _+_, _≤_, _<_}
 use mathlib.Core.Path.{_≡_}
 use mathlib.Core.Bool.{Bool, true, false, cond, _||_}
@@ -18,14 +19,15 @@ use Rattle.refusals.specs.Refusals.{firstRefusal}
 use Rattle.opcodes.specs.declared.Operation.the-variants.{Smint, Rsm}
 use Rattle.opcodes.specs.Decode.{operationOf}
 use Rattle.settings.specs.Settings.{regionIn, enabled, headerPlace}
+use Rattle.nesting.specs.Nesting.{enteredSettings, resumedSettings, nestable, staysInside}
 use Rattle.header.specs.declared.Saved.{Saved}
 use Rattle.header.specs.declared.Level.the-variants.{Zero}
-use Rattle.header.specs.Header.{trapOf, headerLength, headerBytes, wordIn, resumed, withEip}
+use Rattle.header.specs.Header.{trapOf, headerLength, headerBytes, wordIn, resumed, nestedIn, withEip}
 use Rattle.header.specs.Header.Word.{CurrentIp, NextIp}
 use Rattle.header.specs.Entry.{entryCr0, entryCs}
 use Rattle.machine.specs.declared.Machine.{Machine}
 use Rattle.machine.specs.Outcomes.{Outcome}
-use Rattle.machine.specs.Machines.{settingsOf, editionOf}
+use Rattle.machine.specs.Machines.{settingsOf, editionOf, withSettings}
 use Rattle.machine.specs.Service.{savedAtBoundary, savedBySmint}
 use Rattle.machine.specs.Steps.{valid, stepped}
 use Rattle.isolation.specs.Widths.{MachineFits}
@@ -43,11 +45,11 @@ pub record OnlyHeader (g g′ : List ℕ) (at : ℕ) (bytes : List ℕ) : Type 0
   pub header : (i : ℕ) → i < headerLength → getD g′ (at + i) 0 ≡ getD bytes i 0
   pub above : (i : ℕ) → at + headerLength ≤ i → getD g′ i 0 ≡ getD g i 0
 
--- The two ways to enter, each with its condition: a boundary outside the mode, where SMIs are enabled and one is asserted or latched, and a
--- valid SMINT.
+-- The two ways to enter, each with its condition: a boundary where SMIs are enabled and one is asserted or latched, inside the mode only
+-- where a handler may be interrupted, and a valid SMINT.
 pub data Entering (m : Machine) : Step → Type 0 where
   at-boundary : {smi current : ℕ} {i : Interruption}
-      → m .inside ≡ false → enabled (settingsOf m) ≡ true → (eqb smi 1 || m .latched) ≡ true
+      → enabled (settingsOf m) ≡ true → (m .inside ≡ true → nestable (settingsOf m) ≡ true) → (eqb smi 1 || m .latched) ≡ true
       → Entering m (Boundary smi current i)
   by-smint : {op modrm a next : ℕ}
       → operationOf (editionOf m) op modrm ≡ Smint → valid m Smint ≡ true
@@ -55,11 +57,11 @@ pub data Entering (m : Machine) : Step → Type 0 where
 
 -- what each records, and how it leaves the latch
 abbrev pub recorded : (m : Machine) → {s : Step} → Entering m s → Saved
-recorded m (Entering.at-boundary {smi} {current} {i} outside on asked) = savedAtBoundary m current i
+recorded m (Entering.at-boundary {smi} {current} {i} on may asked) = savedAtBoundary m current i
 recorded m (Entering.by-smint {op} {modrm} {a} {next} d v) = savedBySmint m next
 
 abbrev pub latchAfter : (m : Machine) → {s : Step} → Entering m s → Bool
-latchAfter m (Entering.at-boundary {smi} {current} {i} outside on asked) = false
+latchAfter m (Entering.at-boundary {smi} {current} {i} on may asked) = false
 latchAfter m (Entering.by-smint {op} {modrm} {a} {next} d v) = m .latched
 
 -- Both enter, unless the step is refused.
@@ -67,7 +69,8 @@ abbrev pub EntersWhereDue : Type 0
 EntersWhereDue =
     (m : Machine) (x : Memories) (s : Step) → firstRefusal (m .halted) x s ≡ Allowed → Entering m s → answerTo m x s ≡ 11
 
--- entry writes the 48 header bytes and loads its state, and nothing else moves: m and x are before the step s, and o is after it
+-- entry writes the 48 header bytes and loads its state, clears N where service nests, and nothing else moves: m and x are before the step s,
+-- and o is after it
 pub record Entry (m : Machine) (x : Memories) (s : Step) (o : Outcome) : Type 0 where
   pub by : Entering m s
   pub eip : o .stepped .machine .registers .eip ≡ 0
@@ -81,7 +84,7 @@ pub record Entry (m : Machine) (x : Memories) (s : Step) (o : Outcome) : Type 0 
   pub inside : o .stepped .machine .inside ≡ true
   pub latched : o .stepped .machine .latched ≡ latchAfter m by
   pub segments : o .stepped .machine .segments ≡ m .segments
-  pub config : o .stepped .machine .config ≡ m .config
+  pub config : o .stepped .machine .config ≡ withSettings m (enteredSettings (settingsOf m)) .config
   pub main : o .memory .main ≡ x .main
   pub management : OnlyHeader (x .management) (o .memory .management) (headerPlace (settingsOf m)) (headerBytes (recorded m by))
 
@@ -98,30 +101,32 @@ abbrev pub ResumesWhereDue : Type 0
 ResumesWhereDue =
     (m : Machine) (x : Memories) (s : Step) → firstRefusal (m .halted) x s ≡ Allowed → Resuming m s → answerTo m x s ≡ 12
 
--- it loads the registers from the header that management memory holds, and leaves the mode: m and x are before the step s, and o is after it
+-- It loads the registers from the header that management memory holds. It leaves the mode; but where service nests, it stays inside if the
+-- header says so, and sets N. m and x are before the step s, and o is after it.
 pub record Resumption (m : Machine) (x : Memories) (s : Step) (o : Outcome) : Type 0 where
   pub by : Resuming m s
   pub registers : o .stepped .machine .registers ≡ resumed (x .management) (headerPlace (settingsOf m))
   pub halted : o .stepped .machine .halted ≡ false
-  pub inside : o .stepped .machine .inside ≡ false
+  pub inside : o .stepped .machine .inside ≡ staysInside (settingsOf m) (nestedIn (x .management) (headerPlace (settingsOf m)))
   pub latched : o .stepped .machine .latched ≡ m .latched
   pub segments : o .stepped .machine .segments ≡ m .segments
-  pub config : o .stepped .machine .config ≡ m .config
+  pub config : o .stepped .machine .config ≡ withSettings m (resumedSettings (settingsOf m)) .config
   pub memory : o .memory ≡ x
 
 -- whatever answers 12 is such a resumption
 abbrev pub ResumesAsStated : Type 0
 ResumesAsStated = (m : Machine) (x : Memories) (s : Step) → answerTo m x s ≡ 12 → Resumption m x s (stepped m x s)
 
--- RSM right after entry: it loads the registers that were saved, with next IP for EIP. m is before entry, e is after it, and o is after RSM.
+-- RSM right after entry: it loads the registers that were saved, with next IP for EIP, and is back where entry came from, inside or outside,
+-- with N set where service nests. m is before entry, e is after it, and o is after RSM.
 pub record Resume (m : Machine) (s : Step) (by : Entering m s) (e o : Outcome) : Type 0 where
   pub answer : numberOf (o .stepped .answer) ≡ 12
   pub registers : o .stepped .machine .registers ≡ withEip (m .registers) (recorded m by .next)
   pub halted : o .stepped .machine .halted ≡ false
-  pub inside : o .stepped .machine .inside ≡ false
+  pub inside : o .stepped .machine .inside ≡ m .inside
   pub latched : o .stepped .machine .latched ≡ e .stepped .machine .latched
   pub segments : o .stepped .machine .segments ≡ m .segments
-  pub config : o .stepped .machine .config ≡ m .config
+  pub config : o .stepped .machine .config ≡ withSettings m (resumedSettings (settingsOf m)) .config
   pub memory : o .memory ≡ e .memory
 
 -- that holds where every number of the machine and of the step has the width of its type

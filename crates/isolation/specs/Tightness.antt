@@ -17,10 +17,11 @@ use Rattle.steps.specs.Answers.{numberOf}
 use Rattle.refusals.specs.Refusals.{malformedOn}
 use Rattle.settings.specs.Settings.{headerPlace}
 use Rattle.settings.specs.Locked.{Fixed}
+use Rattle.nesting.specs.Nesting.{enteredSettings, resumedSettings}
 use Rattle.header.specs.Header.{headerBytes, wordIn, withEip}
 use Rattle.header.specs.Header.Word.{CurrentIp, NextIp}
 use Rattle.machine.specs.declared.Machine.{Machine}
-use Rattle.machine.specs.Machines.{machine, settingsOf, editionOf}
+use Rattle.machine.specs.Machines.{machine, settingsOf, editionOf, withSettings}
 use Rattle.machine.specs.Outcomes.{Outcome, gives, ends}
 use Rattle.machine.specs.Service.{savedAtBoundary, entry, resume}
 use Rattle.runs.specs.Runs.{Run, run, answersOf}
@@ -90,7 +91,11 @@ ResumeDetermines =
     (m : Machine) (s : Step) (by : Entering m s) (e o : Outcome) → Resume m s by e o
     → o
     ≡ ends
-    (gives (machine (withEip (m .registers) (recorded m by .next)) (m .segments) false false (e .stepped .machine .latched) (m .config)) Resumed)
+    (gives
+    (withSettings
+    (machine (withEip (m .registers) (recorded m by .next)) (m .segments) false (m .inside) (e .stepped .machine .latched) (m .config))
+    (resumedSettings (settingsOf m)))
+    Resumed)
     (e .memory)
 
 -- and the IP words of a well-formed boundary, with EIP after RSM
@@ -113,9 +118,13 @@ pub record Determined (m : Machine) (g h : List ℕ) (a b : Run) (c : Agree m g 
       → let at = headerPlace (settingsOf m) in
       let bytes = headerBytes (c .entered e .saved) in
       (a .memory .management ≡ sets g at bytes) × (b ≡ second a (sets h at bytes))
-  -- both machines are of the edition of the start, with its locked settings
+  -- both machines are of the edition of the start, with its locked settings, and after entry with what entry leaves of them
   pub editions : (editionOf (a .machine) ≡ editionOf m) × (editionOf (b .machine) ≡ editionOf m)
-  pub settings : Fixed (editionOf m) (settingsOf (a .machine)) (settingsOf m) × Fixed (editionOf m) (settingsOf (b .machine)) (settingsOf m)
+  pub kept : (lastNumber (answersOf a) ≡ 11 → ⊥)
+      → Fixed (editionOf m) (settingsOf (a .machine)) (settingsOf m) × Fixed (editionOf m) (settingsOf (b .machine)) (settingsOf m)
+  pub moved : lastNumber (answersOf a) ≡ 11
+      → let s = enteredSettings (settingsOf m) in
+      Fixed (editionOf m) (settingsOf (a .machine)) s × Fixed (editionOf m) (settingsOf (b .machine)) s
 
 abbrev pub AgreementDetermines : Type 0
 AgreementDetermines = (m : Machine) (g h : List ℕ) (a b : Run) (c : Agree m g h a b) → Determined m g h a b c
