@@ -10,8 +10,8 @@ use Rattle.steps.specs.declared.Step.the-variants.{Reset, Registers, Read, Writ
 use Rattle.refusals.proofs.Laws.{by-verdict}
 use Rattle.settings.specs.declared.Settings.{Settings}
 use Rattle.settings.specs.Settings.{smiLock, headerFits, withSmhr, SameLocked}
-use Rattle.settings.proofs.Lock.{locked-refl}
-use Rattle.settings.proofs.Place.{fits-never, enabled-has}
+use Rattle.settings_laws.proofs.Lock.{locked-refl}
+use Rattle.settings_laws.proofs.Place.{fits-never, enabled-has}
 use Rattle.segments.specs.declared.SegmentName.{SegmentName}
 use Rattle.opcodes.specs.declared.Operation.{Operation}
 use Rattle.opcodes.specs.declared.Operation.the-variants.{Save, Restore, Rdshr, Wrshr, Smint, Rsm, Undefined}
