@@ -24,7 +24,7 @@ use Rattle.refusals.proofs.Laws.{taken-allowed}
 use Rattle.settings.specs.declared.Edition.the-variants.{Cx486}
 use Rattle.settings.specs.declared.Settings.{Settings}
 use Rattle.settings.specs.Settings.{regionIn, headerFits, enabled, headerPlace, lockedBits, keptBits, byteOf, withByte, merged, written}
-use Rattle.settings.proofs.Place.{fits-always}
+use Rattle.settings_laws.proofs.Place.{fits-always}
 use Rattle.config.specs.Ports.{indexed, answering, alwaysInternal, internal, portWrite}
 use Rattle.header.specs.declared.Level.{Level}
 use Rattle.header.specs.declared.Level.the-variants.{Zero}

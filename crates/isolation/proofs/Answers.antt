@@ -6,8 +6,8 @@ use lib.Dec.{eqb}
 use Rattle.steps.specs.declared.Answer.{Answer}
 use Rattle.steps.specs.Answers.{numberOf, refusal}
 use Rattle.settings.specs.Settings.{smiLock, SameLocked, withByte, written}
-use Rattle.settings.specs.Locked.{SettingsFit}
-use Rattle.settings.proofs.Lock.{locked-refl, written-locked, written-fits}
+use Rattle.settings_laws.specs.Locked.{SettingsFit}
+use Rattle.settings_laws.proofs.Lock.{locked-refl, written-locked, written-fits}
 use Rattle.config.specs.declared.Config.{Config}
 use Rattle.config.specs.declared.Accessed.{Accessed}
 use Rattle.config.specs.Ports.{answering, indexed, internal, portRead, portWrite}

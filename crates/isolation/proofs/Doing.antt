@@ -15,7 +15,7 @@ use Rattle.refusals.specs.declared.Verdict.{Verdict}
 use Rattle.refusals.specs.Refusals.{wrongSizes, malformedOn, programWhileHalted, firstRefusal}
 use Rattle.refusals.proofs.Laws.{Taken}
 use Rattle.settings.specs.Settings.{useSmi, regionIn, headerFits, enabled, opcodesAllowed, smac}
-use Rattle.settings.proofs.Place.{enabled-has}
+use Rattle.settings_laws.proofs.Place.{enabled-has}
 use Rattle.nesting.specs.Nesting.{nestable, takes}
 use Rattle.opcodes.specs.declared.Operation.{Operation}
 use Rattle.opcodes.specs.declared.Operation.the-variants.{Save, Restore, Rdshr, Wrshr, Smint, Rsm, Undefined}

@@ -11,8 +11,8 @@ use Rattle.steps.specs.Answers.{numberOf}
 use Rattle.refusals.proofs.Laws.{by-verdict}
 use Rattle.settings.specs.declared.Settings.{Settings}
 use Rattle.settings.specs.Settings.{smiLock, headerFits, withSmhr, SameLocked}
-use Rattle.settings.proofs.Lock.{locked-refl}
-use Rattle.settings.proofs.Place.{fits-never, enabled-has}
+use Rattle.settings_laws.proofs.Lock.{locked-refl}
+use Rattle.settings_laws.proofs.Place.{fits-never, enabled-has}
 use Rattle.config.specs.declared.Config.{Config}
 use Rattle.header.specs.declared.Saved.{Saved}
 use Rattle.segments.specs.declared.SegmentName.{SegmentName}

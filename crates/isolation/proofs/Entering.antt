@@ -12,7 +12,7 @@ use Rattle.steps.specs.declared.Step.{Step}
 use Rattle.steps.specs.Answers.{numberOf}
 use Rattle.refusals.proofs.Laws.{sizes}
 use Rattle.settings.specs.Settings.{headerPlace}
-use Rattle.settings.proofs.Place.{place-room}
+use Rattle.settings_laws.proofs.Place.{place-room}
 use Rattle.header.specs.declared.Saved.{Saved}
 use Rattle.header.specs.Header.{headerLength, contents, upward, headerBytes, headed}
 use Rattle.header.proofs.ReadBack.{length-bytes}

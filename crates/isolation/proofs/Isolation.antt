@@ -22,9 +22,9 @@ use Rattle.events.specs.Events.{Event, event}
 use Rattle.refusals.specs.Refusals.{wrongSizes, firstRefusal}
 use Rattle.refusals.proofs.Laws.{by-verdict, sizes}
 use Rattle.settings.specs.Settings.{smac, smiLock, enabled, headerPlace, SameLocked, opcodesAllowed}
-use Rattle.settings.specs.Locked.{Fixed, SettingsFit}
-use Rattle.settings.proofs.Lock.{locked-refl, locked-trans, same-smac, same-lock, locked-as-listed}
-use Rattle.settings.proofs.Place.{same-place, window-shut, enabled-has, place-room}
+use Rattle.settings_laws.specs.Locked.{Fixed, SettingsFit}
+use Rattle.settings_laws.proofs.Lock.{locked-refl, locked-trans, same-smac, same-lock, locked-as-listed}
+use Rattle.settings_laws.proofs.Place.{same-place, window-shut, enabled-has, place-room}
 use Rattle.nesting.specs.Nesting.{enteredSettings}
 use Rattle.header.specs.Header.{headerLength, headed, headerBytes}
 use Rattle.header.specs.declared.Saved.{Saved}

@@ -7,7 +7,7 @@ use Rattle.settings.specs.declared.Edition.{Edition}
 use Rattle.settings.specs.declared.Edition.the-variants.{Cx486, Mii}
 use Rattle.settings.specs.declared.Settings.{Settings}
 use Rattle.settings.specs.Settings.{headerEnd, headerFits, headerPlace, enabled, opcodesAllowed, withByte}
-use Rattle.settings.specs.Locked.{Fixed486, FixedMii, Fixed}
+use Rattle.settings_laws.specs.Locked.{Fixed486, FixedMii, Fixed}
 use Rattle.nesting.specs.Nesting.{withN, enhanced, enteredSettings, resumedSettings, bitN, nestable, takes, staysInside}
 use Rattle.nesting.proofs.Moving.{still-enhanced}
 use Rattle.isolation.proofs.Cases.{both, either}

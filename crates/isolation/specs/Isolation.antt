@@ -16,7 +16,7 @@ use Rattle.steps.specs.declared.Step.{Step}
 use Rattle.steps.specs.declared.Step.the-variants.{Reset, Wake}
 use Rattle.steps.specs.Answers.{numberOf}
 use Rattle.settings.specs.Settings.{smiLock, smac, headerPlace}
-use Rattle.settings.specs.Locked.{Fixed, SettingsFit}
+use Rattle.settings_laws.specs.Locked.{Fixed, SettingsFit}
 use Rattle.nesting.specs.Nesting.{enteredSettings}
 use Rattle.header.specs.declared.Saved.{Saved}
 use Rattle.header.specs.Header.{headerBytes}

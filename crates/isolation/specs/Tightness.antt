@@ -16,7 +16,7 @@ use Rattle.steps.specs.declared.Interruption.{Interruption}
 use Rattle.steps.specs.Answers.{numberOf}
 use Rattle.refusals.specs.Refusals.{malformedOn}
 use Rattle.settings.specs.Settings.{headerPlace}
-use Rattle.settings.specs.Locked.{Fixed}
+use Rattle.settings_laws.specs.Locked.{Fixed}
 use Rattle.nesting.specs.Nesting.{enteredSettings, resumedSettings}
 use Rattle.header.specs.Header.{headerBytes, wordIn, withEip}
 use Rattle.header.specs.Header.Word.{CurrentIp, NextIp}

@@ -1,7 +1,7 @@
 -- The widths of a machine's numbers (01, "What the machine holds"), which theorems ask for. Every machine of the code's own type has them.
 use Prim.Native.Nat.{_<_, _^_}
 use Rattle.memory.specs.declared.Segment.{Segment}
-use Rattle.settings.specs.Locked.{SettingsFit}
+use Rattle.settings_laws.specs.Locked.{SettingsFit}
 use Rattle.header.specs.ReadBack.{RegistersFit}
 use Rattle.segments.specs.declared.Segments.{Segments}
 use Rattle.machine.specs.declared.Machine.{Machine}

@@ -1,3 +1,1 @@
 pub mod Settings
-pub mod Locked
-pub mod Headers

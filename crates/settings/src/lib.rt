@@ -1,8 +1,6 @@
 ghost use mathlib.Core.Path.{_≡_};
 ghost use Prim.Native.Nat.{_+_, _≤_};
 ghost use Rattle.settings.specs.Settings.{isMii, useSmi, smac, mmac, smiLock, mapen, regionIn, smhr, windowOf, headerEnd, headerFits, headerPlace, enabled, opcodesAllowed, byteOf, withByte, withSmhr, laterBits, lockedBits, stickyBits, keptBits, merged, written};
-ghost use Rattle.settings.specs.Locked.{SettingsFit, LockedAsListed};
-ghost use Rattle.settings.specs.Headers.{PlaceBelowEnd, FitsWithin, FitsAlways, FitsNever, SmhrAtIndexes, SmhrLoaded};
 use region::Region;
 
 const HEADER_LENGTH: u64 = 48;
@@ -321,18 +319,3 @@ impl Settings {
         self.with_byte(index, merge(self.kept_bits(index, inside), old, value))
     }
 }
-
-// No code of the model: these hold the gate to the bytes' width, to what the lock's table covers, and to where the header lies.
-fn widths(s: Settings)
-    ensures { λ r. ⌜ SettingsFit s ⌝ }
-{}
-
-fn laws()
-    ensures locked { λ r. ⌜ LockedAsListed ⌝ }
-    ensures place { λ r. ⌜ PlaceBelowEnd ⌝ }
-    ensures within { λ r. ⌜ FitsWithin ⌝ }
-    ensures always { λ r. ⌜ FitsAlways ⌝ }
-    ensures never { λ r. ⌜ FitsNever ⌝ }
-    ensures indexes { λ r. ⌜ SmhrAtIndexes ⌝ }
-    ensures loaded { λ r. ⌜ SmhrLoaded ⌝ }
-{}

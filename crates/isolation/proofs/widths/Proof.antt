@@ -6,7 +6,7 @@ use denote.Laws.{Is}
 use denote.Struct.Declared.{row}
 use Rattle.memory.specs.declared.Segment.{Segment}
 use Rattle.memory.proofs.Segment as segment
-use Rattle.settings.specs.Locked.{SettingsFit}
+use Rattle.settings_laws.specs.Locked.{SettingsFit}
 use Rattle.config.specs.declared.Config.{Config}
 use Rattle.config.proofs.Config as config
 use Rattle.header.specs.declared.Registers.{Registers}

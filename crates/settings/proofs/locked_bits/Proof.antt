@@ -7,36 +7,36 @@ use Rattle.settings.proofs.locked_bits.Reads as reads
 use Rattle.settings.proofs.locked_bits.Lts as lts
 use Rattle.settings.proofs.later_bits.Reads as later-bits-reads
 
--- src/lib.rt:42:14
+-- src/lib.rt:40:14
 later-bits-requires : tie.Need-later-bits-requires
 later-bits-requires c κs = search needs
 
--- src/lib.rt:33:1
+-- src/lib.rt:31:1
 returns : tie.Need-returns
 unfolding lockedBits
 returns c = rw ((c .match .keys1))
 
--- src/lib.rt:33:1
+-- src/lib.rt:31:1
 returns-2 : tie.Need-returns-2
 unfolding lockedBits
 returns-2 c = rw ((c .match .keys2))
 
--- src/lib.rt:33:1
+-- src/lib.rt:31:1
 returns-3 : tie.Need-returns-3
 unfolding lockedBits
 returns-3 c = rw ((c .match .keys3))
 
--- src/lib.rt:33:1
+-- src/lib.rt:31:1
 returns-4 : tie.Need-returns-4
 unfolding lockedBits
 returns-4 c = rw ((c .match .keys4))
 
--- src/lib.rt:33:1
+-- src/lib.rt:31:1
 returns-5 : tie.Need-returns-5
 unfolding lockedBits
 returns-5 c = rw ((c .match .keys5))
 
--- src/lib.rt:33:1
+-- src/lib.rt:31:1
 returns-6 : tie.Need-returns-6
 unfolding lockedBits
 returns-6 c = let r = (c .before .match .rest) in

@@ -11,36 +11,36 @@ use Rattle.settings.proofs.Settings.header_end.Reads as header-end-read
 use Rattle.settings.proofs.Settings.region.Reads as region-reads
 use Rattle.region.proofs.size_of.Reads as size-of-reads
 
--- src/lib.rt:221:13
+-- src/lib.rt:219:13
 region-requires : tie.Need-region-requires
 region-requires c κs = search needs
 
--- src/lib.rt:222:20
+-- src/lib.rt:220:20
 cast-base : tie.Need-cast-base
 cast-base c = search needs
 
--- src/lib.rt:223:13
+-- src/lib.rt:221:13
 header-end-requires : tie.Need-header-end-requires
 header-end-requires c κs = search needs
 
--- src/lib.rt:224:12
+-- src/lib.rt:222:12
 add-if1 : tie.Need-add-if1
 add-if1 c = search needs
 
--- src/lib.rt:225:34
+-- src/lib.rt:223:34
 size-of-requires : tie.Need-size-of-requires
 size-of-requires c κs = search needs
 
--- src/lib.rt:225:27
+-- src/lib.rt:223:27
 add-result : tie.Need-add-result
 add-result c = search needs
 
--- src/lib.rt:225:13
+-- src/lib.rt:223:13
 returns : tie.Need-returns
 unfolding headerFits
 returns c = rw (sym (c .before .before .before .before .region .ensures), sym (c .before .before .header-end .ensures .0), le-leb _ _ (c .before .if1 .taken), (c .size-of .ensures .0))
 
--- src/lib.rt:218:5
+-- src/lib.rt:216:5
 returns-2 : tie.Need-returns-2
 unfolding headerFits
 returns-2 c = rw (sym (c .before .before .before .region .ensures), sym (c .before .header-end .ensures .0), lt-leb _ _ (c .if1 .left))

@@ -14,40 +14,40 @@ use Rattle.settings.proofs.Settings.region.Reads as region-reads
 use Rattle.settings.proofs.Settings.smhr.Reads as smhr-reads
 use Rattle.region.proofs.size_of.Reads as size-of-reads
 
--- src/lib.rt:210:12
+-- src/lib.rt:208:12
 is-mii-requires : tie.Need-is-mii-requires
 is-mii-requires c κs = search needs
 
--- src/lib.rt:211:20
+-- src/lib.rt:209:20
 smhr-requires : tie.Need-smhr-requires
 smhr-requires c κs = search needs
 
--- src/lib.rt:211:20
+-- src/lib.rt:209:20
 cast-result : tie.Need-cast-result
 cast-result c = search needs
 
--- src/lib.rt:211:13
+-- src/lib.rt:209:13
 returns : tie.Need-returns
 unfolding headerEnd
 returns c = (rw (sym (c .before .before .is-mii .ensures) ∙ (c .before .if1 .taken)) (c .smhr .ensures), omega arith)
 
--- src/lib.rt:213:13
+-- src/lib.rt:211:13
 region-requires : tie.Need-region-requires
 region-requires c κs = search needs
 
--- src/lib.rt:214:9
+-- src/lib.rt:212:9
 cast-result-2 : tie.Need-cast-result-2
 cast-result-2 c = search needs
 
--- src/lib.rt:214:25
+-- src/lib.rt:212:25
 size-of-requires : tie.Need-size-of-requires
 size-of-requires c κs = search needs
 
--- src/lib.rt:214:9
+-- src/lib.rt:212:9
 add-result : tie.Need-add-result
 add-result c = search needs
 
--- src/lib.rt:205:5
+-- src/lib.rt:203:5
 returns-2 : tie.Need-returns-2
 unfolding headerEnd
 returns-2 c = (rw (sym (c .before .before .before .before .is-mii .ensures) ∙ (c .before .before .before .if1 .left), sym (c .before .before .region .ensures), (c .size-of .ensures .0)), omega (arith, ap (λ (r : Region). r .base) (c .before .before .region .ensures), (c .size-of .ensures .1)))

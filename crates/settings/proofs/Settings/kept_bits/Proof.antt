@@ -9,29 +9,29 @@ use Rattle.settings.proofs.Settings.smi_lock.Reads as smi-lock-reads
 use Rattle.settings.proofs.locked_bits.Reads as locked-bits-reads
 use Rattle.settings.proofs.sticky_bits.Reads as sticky-bits-reads
 
--- src/lib.rt:306:12
+-- src/lib.rt:304:12
 smi-lock-requires : tie.Need-smi-lock-requires
 smi-lock-requires c κs = search needs
 
--- src/lib.rt:308:17
+-- src/lib.rt:306:17
 sticky-bits-requires : tie.Need-sticky-bits-requires
 sticky-bits-requires c κs = search needs
 
--- src/lib.rt:308:17
+-- src/lib.rt:306:17
 returns : tie.Need-returns
 unfolding keptBits
 returns c = simp (sym (c .before .before .before .smi-lock .ensures) ∙ (c .before .before .if1 .taken), (c .before .if2 .taken)) (c .sticky-bits .ensures)
 
--- src/lib.rt:311:13
+-- src/lib.rt:309:13
 locked-bits-requires : tie.Need-locked-bits-requires
 locked-bits-requires c κs = search needs
 
--- src/lib.rt:311:13
+-- src/lib.rt:309:13
 returns-2 : tie.Need-returns-2
 unfolding keptBits
 returns-2 c = simp (sym (c .before .before .before .smi-lock .ensures) ∙ (c .before .before .if1 .taken), (c .before .if2 .left)) (c .locked-bits .ensures)
 
--- src/lib.rt:303:5
+-- src/lib.rt:301:5
 returns-3 : tie.Need-returns-3
 unfolding keptBits
 returns-3 c = simp (sym (c .before .smi-lock .ensures) ∙ (c .if1 .left))

@@ -5,57 +5,57 @@ use Rattle.settings.proofs.Settings.with_byte.Tie as tie
 use Rattle.settings.proofs.Settings.with_byte.Reads as reads
 use Rattle.settings.proofs.Settings.with_byte.Lts as lts
 
--- src/lib.rt:262:5
+-- src/lib.rt:260:5
 returns : tie.Need-returns
 unfolding withByte
 returns c = rw ((c .match .keys1))
 
--- src/lib.rt:262:5
+-- src/lib.rt:260:5
 returns-2 : tie.Need-returns-2
 unfolding withByte
 returns-2 c = rw ((c .match .keys2))
 
--- src/lib.rt:262:5
+-- src/lib.rt:260:5
 returns-3 : tie.Need-returns-3
 unfolding withByte
 returns-3 c = rw ((c .match .keys3))
 
--- src/lib.rt:262:5
+-- src/lib.rt:260:5
 returns-4 : tie.Need-returns-4
 unfolding withByte
 returns-4 c = rw ((c .match .keys4))
 
--- src/lib.rt:262:5
+-- src/lib.rt:260:5
 returns-5 : tie.Need-returns-5
 unfolding withByte
 returns-5 c = rw ((c .match .keys5))
 
--- src/lib.rt:262:5
+-- src/lib.rt:260:5
 returns-6 : tie.Need-returns-6
 unfolding withByte
 returns-6 c = rw ((c .match .keys6))
 
--- src/lib.rt:262:5
+-- src/lib.rt:260:5
 returns-7 : tie.Need-returns-7
 unfolding withByte
 returns-7 c = rw ((c .match .keys7))
 
--- src/lib.rt:262:5
+-- src/lib.rt:260:5
 returns-8 : tie.Need-returns-8
 unfolding withByte
 returns-8 c = rw ((c .match .keys8))
 
--- src/lib.rt:262:5
+-- src/lib.rt:260:5
 returns-9 : tie.Need-returns-9
 unfolding withByte
 returns-9 c = rw ((c .match .keys9))
 
--- src/lib.rt:262:5
+-- src/lib.rt:260:5
 returns-10 : tie.Need-returns-10
 unfolding withByte
 returns-10 c = rw ((c .match .keys10))
 
--- src/lib.rt:262:5
+-- src/lib.rt:260:5
 returns-11 : tie.Need-returns-11
 unfolding withByte
 returns-11 c = let r = (c .match .rest) in

@@ -11,13 +11,13 @@ use Rattle.region.proofs.Usable.{usable-has}
 use Rattle.region.proofs.Laws.{within-has, within-is}
 use Rattle.fields.specs.Fields.{numberBy}
 use Rattle.header.specs.Header.{headerLength}
 use Rattle.settings.specs.declared.Edition.{Edition}
 use Rattle.settings.specs.declared.Edition.the-variants.{Cx486, Mii}
 use Rattle.settings.specs.declared.Settings.{Settings}
 use Rattle.settings.specs.Settings.{isMii, useSmi, smac, smhr, regionIn, windowOf, headerEnd, headerFits, headerPlace, enabled, byteOf, withSmhr, SameLocked}
-use Rattle.settings.specs.Locked.{Fixed486, FixedMii, Fixed, SettingsFit}
-use Rattle.settings.specs.Headers.{PlaceBelowEnd, FitsWithin, FitsAlways, FitsNever, SmhrAtIndexes, SmhrLoaded}
-use Rattle.settings.proofs.Lock.{locked-as-listed}
+use Rattle.settings_laws.specs.Locked.{Fixed486, FixedMii, Fixed, SettingsFit}
+use Rattle.settings_laws.specs.Headers.{PlaceBelowEnd, FitsWithin, FitsAlways, FitsNever, SmhrAtIndexes, SmhrLoaded}
+use Rattle.settings_laws.proofs.Lock.{locked-as-listed}
 
 -- what a header that fits has
 pub record Fits (s : Settings) : Type 0 where

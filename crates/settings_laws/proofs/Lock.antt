@@ -8,11 +8,11 @@ use lib.Arith.{lt-one}
 use lib.Bits.{bitAnd, bitOr, and-step, or-step, and-shr, or-shr, and-zero-r, and-le-r, or-lt, and-mask, and-high}
 use lib.Dec.{eqb}
 use borrow.Author.Tests.{eqb-true, eqb-false}
 use Rattle.settings.specs.declared.Edition.{Edition}
 use Rattle.settings.specs.declared.Edition.the-variants.{Cx486, Mii}
 use Rattle.settings.specs.declared.Settings.{Settings}
 use Rattle.settings.specs.Settings.{isMii, smac, smiLock, smhr, byteOf, withByte, laterBits, lockedBits, stickyBits, keptBits, merged, written, SameLocked}
-use Rattle.settings.specs.Locked.{Fixed486, FixedMii, Fixed, SettingsFit, LockedAsListed}
+use Rattle.settings_laws.specs.Locked.{Fixed486, FixedMii, Fixed, SettingsFit, LockedAsListed}
 
 -- ---- the same locked bits
 
