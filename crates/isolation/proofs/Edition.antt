@@ -29,7 +29,7 @@ use Rattle.isolation.specs.Service.{Entering, Resuming}
 use Rattle.isolation.specs.Editions.{EditionStays, LockHolds, NoService}
 use Rattle.isolation.proofs.Answers.{read-keeps, write-keeps}
 use Rattle.isolation.proofs.Cases.{by-name, either, unlike}
-use Rattle.isolation.proofs.Nesting.{entered-edition, resumed-edition}
+use Rattle.isolation.proofs.Nesting.{entered-kept, resumed-kept}
 use Rattle.isolation.proofs.Service.{enters-as-stated, resumes-as-stated}
 
 -- ---- the edition, and what the lock covers
@@ -67,7 +67,7 @@ module _ (m : Machine) (x : Memories) (s : Step) where
   -- entry, which the lock's hold leaves out
   entry-keeps : (r : Saved) (latched : Bool) → Keeps m s (entry m x r latched)
   unfolding entry enteredMachine
-  entry-keeps r latched = record { edition = entered-edition (settingsOf m); locked = λ outside lock none other. absurd (other refl) }
+  entry-keeps r latched = record { edition = entered-kept (settingsOf m) .edition; locked = λ outside lock none other. absurd (other refl) }
 
   operated-keeps : (o : Operation) (a next : ℕ) → valid m o ≡ true → Keeps m s (operated m x o a next)
   unfolding operated saved restored smhrStored smhrLoaded withSmhr resume
@@ -77,7 +77,7 @@ module _ (m : Machine) (x : Memories) (s : Step) where
   operated-keeps Wrshr a next v = record { edition = refl; locked = λ outside lock none other. absurd (wrshr-locked m v outside lock) }
   operated-keeps Smint a next v = entry-keeps _ _
   operated-keeps Rsm a next v = record {
-    edition = resumed-edition (settingsOf m);
+    edition = resumed-kept (settingsOf m) .edition;
     locked = λ outside lock none other. absurd (true≢false (sym (rsm-inside m v) ∙ outside));
   }
   operated-keeps Undefined a next v = same _ refl

@@ -42,7 +42,7 @@ use Rattle.isolation.specs.Service.{OnlyHeader}
 use Rattle.isolation.specs.Isolation.{Start, NoReset, UpToEntry, lastNumber, SameHeader, Agree, Isolated, throughEntry, SameAnswers}
 use Rattle.isolation.proofs.Answers.{read-keeps, write-keeps, passes}
 use Rattle.isolation.proofs.Cases.{both}
-use Rattle.isolation.proofs.Nesting.{entered-edition, entered-fixed}
+use Rattle.isolation.proofs.Nesting.{entered-kept, entered-fixed}
 use Rattle.isolation.proofs.Doing.{taken-where}
 use Rattle.isolation.proofs.Entering.{only-header}
 
@@ -158,7 +158,7 @@ module _ (start : Machine) (from : Start start) (g h : List ℕ) (main : List �
           record {
             same = refl;
             main = refl;
-            edition = entered-edition (settingsOf m) ∙ held .settings .edition;
+            edition = entered-kept (settingsOf m) .edition ∙ held .settings .edition;
             before = λ n. absurd (n refl);
             moved = λ n. entered-fixed (editionOf start) (settingsOf m) (settingsOf start) (held .settings .edition) refl (fixed start m from held);
             entered = λ n. record { saved = s; first = moved g (omega arith); second = moved h (omega arith) };

@@ -1,7 +1,7 @@
 -- What entry and RSM leave of the settings, and where a boundary takes an SMI (02, request 7). Assumes nothing.
 use mathlib.Core.Path.{_≡_, refl, sym, _∙_}
 use mathlib.Core.Bool.{Bool, true, false, not, _&&_, _||_, and-false, and-eq-true-iff}
-use Prim.Native.Nat.{ℕ, _+_, _*_, _/_, _%_}
+use Prim.Native.Nat.{ℕ, _+_, _*_, _/_, _%_, _≤_}
 use native.Mathlib.Omega.{arith}
 use Rattle.settings.specs.declared.Edition.{Edition}
 use Rattle.settings.specs.declared.Edition.the-variants.{Cx486, Mii}
@@ -14,38 +14,28 @@ use Rattle.isolation.proofs.Cases.{both, either}
 
 -- ---- what N doesn't decide is the same after entry, and after RSM
 
-module _ (s : Settings) {A : Type 0} (f : Settings → A) where
-  entered-keeps : f (withN s 0) ≡ f s → f (enteredSettings s) ≡ f s
-  unfolding enteredSettings
-  entered-keeps e = either (λ (t : Settings). f t ≡ f s) (enhanced s) (λ k. e) (λ k. refl)
-
-  resumed-keeps : f (withN s 1) ≡ f s → f (resumedSettings s) ≡ f s
-  unfolding resumedSettings
-  resumed-keeps e = either (λ (t : Settings). f t ≡ f s) (enhanced s) (λ k. e) (λ k. refl)
+pub record Kept (s t : Settings) : Type 0 where
+  pub edition : t .edition ≡ s .edition
+  pub place : headerPlace t ≡ headerPlace s
+  pub fits : headerFits t ≡ headerFits s
+  pub opcodes : opcodesAllowed t true ≡ opcodesAllowed s true
+  pub enhanced : enhanced t ≡ enhanced s
 
 module _ (s : Settings) where
-  pub entered-edition : enteredSettings s .edition ≡ s .edition
-  unfolding withN withByte
-  entered-edition = entered-keeps s (λ t. t .edition) refl
+  same : Kept s s
+  same = record { edition = refl; place = refl; fits = refl; opcodes = refl; enhanced = refl }
 
-  pub resumed-edition : resumedSettings s .edition ≡ s .edition
-  unfolding withN withByte
-  resumed-edition = resumed-keeps s (λ t. t .edition) refl
+  with-n : (n : ℕ) → n ≤ 1 → Kept s (withN s n)
+  unfolding headerPlace headerFits headerEnd opcodesAllowed withN withByte
+  with-n n h = record { edition = refl; place = refl; fits = refl; opcodes = refl; enhanced = still-enhanced s n h }
 
-  pub entered-place : headerPlace (enteredSettings s) ≡ headerPlace s
-  unfolding headerPlace headerEnd withN withByte
-  entered-place = entered-keeps s headerPlace refl
+  pub entered-kept : Kept s (enteredSettings s)
+  unfolding enteredSettings
+  entered-kept = either (Kept s) (enhanced s) (λ k. with-n 0 (omega arith)) (λ k. same)
 
-  pub entered-fits : headerFits (enteredSettings s) ≡ headerFits s
-  unfolding headerFits headerEnd withN withByte
-  entered-fits = entered-keeps s headerFits refl
-
-  pub entered-opcodes : opcodesAllowed (enteredSettings s) true ≡ opcodesAllowed s true
-  unfolding opcodesAllowed withN withByte
-  entered-opcodes = entered-keeps s (λ t. opcodesAllowed t true) refl
-
-  pub entered-enhanced : enhanced (enteredSettings s) ≡ enhanced s
-  entered-enhanced = entered-keeps s enhanced (still-enhanced s 0 (omega arith))
+  pub resumed-kept : Kept s (resumedSettings s)
+  unfolding resumedSettings
+  resumed-kept = either (Kept s) (enhanced s) (λ k. with-n 1 (omega arith)) (λ k. same)
 
 -- of equal locked settings entry leaves equal ones
 pub entered-fixed : (e : Edition) (s t : Settings) → s .edition ≡ e → t .edition ≡ e → Fixed e s t → Fixed e (enteredSettings s) (enteredSettings t)

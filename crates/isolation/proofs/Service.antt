@@ -38,7 +38,7 @@ use Rattle.isolation.specs.Service.{answerTo, Entering, recorded, latchA
 use Rattle.isolation.specs.Service.Entering.{at-boundary, by-smint}
 use Rattle.isolation.specs.Service.Resuming.{by-rsm}
 use Rattle.isolation.proofs.Cases.{either}
-use Rattle.isolation.proofs.Nesting.{entered-place, entered-fits, entered-opcodes, entered-enhanced, takes-is, nestable-enhanced}
+use Rattle.isolation.proofs.Nesting.{entered-kept, takes-is, nestable-enhanced}
 use Rattle.isolation.proofs.Doing.{Able}
 use Rattle.isolation.proofs.Entering.{only-header, room, enters, resumes}
 
@@ -165,7 +165,7 @@ same-next m (by-smint d v) (by-smint d′ v′) = refl
 -- RSM stays inside by what entry recorded exactly if entry came from there
 back-where : (m : Machine) {s : Step} (by : Entering m s) → staysInside (enteredSettings (settingsOf m)) (recorded m by .nested) ≡ m .inside
 unfolding staysInside valid
-back-where m (at-boundary on inner asked) = rw (entered-enhanced (settingsOf m)) (go (m .inside) inner)
+back-where m (at-boundary on inner asked) = rw (entered-kept (settingsOf m) .enhanced) (go (m .inside) inner)
   where
     go : (b : Bool) → (b ≡ true → nestable (settingsOf m) ≡ true) → (enhanced (settingsOf m) && b) ≡ b
     go true h = rw (nestable-enhanced (settingsOf m) (h refl))
@@ -199,11 +199,11 @@ module _ (m : Machine) (x : Memories) (s : Step) (by by′ : Entering m s) (able
 
   may-resume : permitted (inside .stepped .machine) ≡ true
   unfolding permitted opcodesAllowed entry enteredMachine entryRegisters
-  may-resume = rw (entered-opcodes (settingsOf m), able .on, able .usable)
+  may-resume = rw (entered-kept (settingsOf m) .opcodes, able .on, able .usable)
 
   fits-kept : headerFits (settingsOf (inside .stepped .machine)) ≡ true
   unfolding entry enteredMachine
-  fits-kept = rw (entered-fits (settingsOf m)) (able .fits)
+  fits-kept = rw (entered-kept (settingsOf m) .fits) (able .fits)
 
   resume-stated : Resume m s by′ inside (stepped (inside .stepped .machine) (inside .memory) (Opcode 0xaa modrm a next))
   unfolding entry enteredMachine resume
@@ -212,12 +212,12 @@ module _ (m : Machine) (x : Memories) (s : Step) (by by′ : Entering m s) (able
       (record {
         answer = refl;
         registers =
-            rw (entered-place (settingsOf m))
+            rw (entered-kept (settingsOf m) .place)
             (registers-back (x .management) (headerPlace (settingsOf m)) (recorded m by) (room m x able) fits
             ∙ rw (same-registers m by, same-next m by by′));
         halted = refl;
         inside =
-            rw (entered-place (settingsOf m), nested-back (x .management) (headerPlace (settingsOf m)) (recorded m by) (room m x able) fits)
+            rw (entered-kept (settingsOf m) .place, nested-back (x .management) (headerPlace (settingsOf m)) (recorded m by) (room m x able) fits)
             (back-where m by);
         latched = refl;
         segments = refl;
