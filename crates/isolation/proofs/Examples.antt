@@ -59,7 +59,7 @@ unfolding headerFits headerEnd regionOf sizeOf
 header-fits Cx486 ccr1 ccr3 = refl
 header-fits Mii ccr1 ccr3 = refl
 
-due-at-boundary : (e : Edition) (halted : Bool) (i : Interruption) → Entering (withHalted (locked e) halted) (met i)
+pub due-at-boundary : (e : Edition) (halted : Bool) (i : Interruption) → Entering (withHalted (locked e) halted) (met i)
 unfolding enabled usable regionOf sizeOf
 due-at-boundary e halted i = at-boundary (rw (header-fits e 0x02 0x01)) (λ h. unlike h refl) refl
 
@@ -83,7 +83,7 @@ module _ (g : List ℕ) (long : length g ≡ 65536) where
   pub allowed : (halted : Bool) (s : Step) → malformedOn halted s ≡ false → programWhileHalted halted s ≡ false → firstRefusal halted x s ≡ Allowed
   allowed halted s formed awake = taken-allowed halted x s (record { sizes = whole; formed = formed; awake = awake })
 
-  boundary-allowed : (halted : Bool) (i : Interruption) → malformedOn halted (met i) ≡ false → firstRefusal halted x (met i) ≡ Allowed
+  pub boundary-allowed : (halted : Bool) (i : Interruption) → malformedOn halted (met i) ≡ false → firstRefusal halted x (met i) ≡ Allowed
   unfolding programWhileHalted
   boundary-allowed halted i formed = allowed halted (met i) formed (and-false halted)
 
@@ -153,7 +153,7 @@ flat-fits = record { selector = omega arith; descriptor = omega arith }
 none-fits : SegmentFits (resetSegments .tr)
 none-fits = record { selector = omega arith; descriptor = omega arith }
 
-sample-fits : (e : Edition) (ccr1 ccr3 : ℕ) → ccr1 < 2 ^ 8 → ccr3 < 2 ^ 8 → MachineFits (sample e ccr1 ccr3)
+pub sample-fits : (e : Edition) (ccr1 ccr3 : ℕ) → ccr1 < 2 ^ 8 → ccr3 < 2 ^ 8 → MachineFits (sample e ccr1 ccr3)
 unfolding numberBy
 sample-fits e ccr1 ccr3 h k = record {
   registers = record {
@@ -181,7 +181,7 @@ sample-fits e ccr1 ccr3 h k = record {
 }
 
 -- an entry that is due, and RSM after it
-entry-example : (m : Machine) (s : Step) → MachineFits m → StepFits s → firstRefusal (m .halted) (filled 0) s ≡ Allowed → Entering m s
+pub entry-example : (m : Machine) (s : Step) → MachineFits m → StepFits s → firstRefusal (m .halted) (filled 0) s ≡ Allowed → Entering m s
     → EntryExample m s
 entry-example m s f w may by =
     let e = enters-where-due m (filled 0) s may by in
@@ -200,7 +200,7 @@ entry-example m s f w may by =
       };
     }
 
-locked-fits : (e : Edition) → MachineFits (locked e)
+pub locked-fits : (e : Edition) → MachineFits (locked e)
 locked-fits e = sample-fits e 0x02 0x01 (omega arith) (omega arith)
 
 halted-fits : (e : Edition) (halted : Bool) → MachineFits (withHalted (locked e) halted)

@@ -1,14 +1,14 @@
 -- What entry and RSM leave of the settings, and where a boundary takes an SMI (02, request 7). Assumes nothing.
 use mathlib.Core.Path.{_≡_, refl, sym, _∙_}
-use mathlib.Core.Bool.{Bool, true, false, not, _&&_, _||_, and-false, and-eq-true-iff}
+use mathlib.Core.Bool.{Bool, true, false, and-eq-true-iff}
 use Prim.Native.Nat.{ℕ, _+_, _*_, _/_, _%_, _≤_}
 use native.Mathlib.Omega.{arith}
 use Rattle.settings.specs.declared.Edition.{Edition}
 use Rattle.settings.specs.declared.Edition.the-variants.{Cx486, Mii}
 use Rattle.settings.specs.declared.Settings.{Settings}
 use Rattle.settings.specs.Settings.{headerEnd, headerFits, headerPlace, enabled, opcodesAllowed, withByte}
-use Rattle.settings_laws.specs.Locked.{Fixed486, FixedMii, Fixed}
-use Rattle.nesting.specs.Nesting.{withN, enhanced, enteredSettings, resumedSettings, bitN, nestable, takes, staysInside}
+use Rattle.settings_laws.specs.Locked.{Fixed486, Fixed}
+use Rattle.nesting.specs.Nesting.{withN, enhanced, enteredSettings, resumedSettings, bitN, nestable, takes}
 use Rattle.nesting.proofs.Moving.{still-enhanced}
 use Rattle.isolation.proofs.Cases.{both, either}
 

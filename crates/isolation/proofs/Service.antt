@@ -1,6 +1,6 @@
 -- Demand 2. Assumes nothing.
 use mathlib.Core.Path.{_≡_, refl, sym, ap, _∙_}
-use mathlib.Core.Bool.{Bool, true, false, not, _&&_, and-false, and-eq-true-iff}
+use mathlib.Core.Bool.{Bool, true, false, _&&_, and-false, and-eq-true-iff}
 use Prim.Native.Nat.{ℕ, _+_, _*_, _^_, _<_}
 use native.Mathlib.Omega.{arith}
 use lib.Dec.{eqb}
@@ -20,7 +20,7 @@ use Rattle.refusals.proofs.Laws.{taken-allowed, by-verdict}
 use Rattle.settings.specs.declared.Edition.{Edition}
 use Rattle.settings.specs.declared.Edition.the-variants.{Cx486, Mii}
 use Rattle.settings.specs.Settings.{headerFits, headerPlace, opcodesAllowed}
-use Rattle.nesting.specs.Nesting.{enhanced, enteredSettings, nestable, staysInside}
+use Rattle.nesting.specs.Nesting.{enhanced, enteredSettings, staysInside}
 use Rattle.nesting.proofs.Moving.{last-moves}
 use Rattle.header.specs.Header.{sizeBits, portSize, cut, trapOf, headerBytes, headed}
 use Rattle.header.specs.Entry.{entryRegisters}
@@ -37,7 +37,7 @@ use Rattle.isolation.specs.Widths.{MachineFits}
 use Rattle.isolation.specs.Service.{answerTo, Entering, recorded, latchAfter, EntersWhereDue, EntersAsStated, ResumesWhereDue, ResumesAsStated, Resume, ResumesAsEntered}
 use Rattle.isolation.specs.Service.Entering.{at-boundary, by-smint}
 use Rattle.isolation.specs.Service.Resuming.{by-rsm}
-use Rattle.isolation.proofs.Cases.{either}
+use Rattle.isolation.proofs.Cases.{either, unlike}
 use Rattle.isolation.proofs.Nesting.{entered-kept, takes-is, nestable-enhanced}
 use Rattle.isolation.proofs.Doing.{Able}
 use Rattle.isolation.proofs.Entering.{only-header, room, enters, resumes}
@@ -162,24 +162,29 @@ same-next : (m : Machine) {s : Step} (by by′ : Entering m s) → recorded m by
 same-next m (at-boundary o n k) (at-boundary o′ n′ k′) = refl
 same-next m (by-smint d v) (by-smint d′ v′) = refl
 
--- RSM stays inside by what entry recorded exactly if entry came from there
-back-where : (m : Machine) {s : Step} (by : Entering m s) → staysInside (enteredSettings (settingsOf m)) (recorded m by .nested) ≡ m .inside
-unfolding staysInside valid
-back-where m (at-boundary on inner asked) = rw (entered-kept (settingsOf m) .enhanced) (go (m .inside) inner)
-  where
-    go : (b : Bool) → (b ≡ true → nestable (settingsOf m) ≡ true) → (enhanced (settingsOf m) && b) ≡ b
-    go true h = rw (nestable-enhanced (settingsOf m) (h refl))
-    go false h = and-false (enhanced (settingsOf m))
-back-where m (by-smint d v) =
-    let outside = and-eq-true-iff (not (m .inside)) (headerFits (settingsOf m)) .0 (and-eq-true-iff (permitted m) _ .0 v .1) .0 in
-    and-false (enhanced (enteredSettings (settingsOf m))) ∙ sym (not-true (m .inside) outside)
+-- it records where it came from, and comes from inside only where service nests
+pub origin : (m : Machine) {s : Step} (by : Entering m s) → (recorded m by .nested ≡ m .inside) × (m .inside ≡ true → enhanced (settingsOf m) ≡ true)
+unfolding valid
+origin m (at-boundary on inner asked) = (refl, λ h. nestable-enhanced (settingsOf m) (inner h))
+origin m (by-smint d v) =
+    let outside = not-true (m .inside) (and-eq-true-iff _ _ .0 (and-eq-true-iff (permitted m) _ .0 v .1) .0) in
+    (sym outside, λ h. unlike h outside)
 
-is-rsm : (e : Edition) (modrm : ℕ) → operationOf e 0xaa modrm ≡ Rsm
+-- so RSM by what it recorded goes back there
+back-where : (m : Machine) {s : Step} (by : Entering m s) → staysInside (enteredSettings (settingsOf m)) (recorded m by .nested) ≡ m .inside
+unfolding staysInside
+back-where m by = rw (entered-kept (settingsOf m) .enhanced, origin m by .0) (go (m .inside) (origin m by .1))
+  where
+    go : (b : Bool) → (b ≡ true → enhanced (settingsOf m) ≡ true) → (enhanced (settingsOf m) && b) ≡ b
+    go true h = rw (h refl)
+    go false h = and-false (enhanced (settingsOf m))
+
+pub is-rsm : (e : Edition) (modrm : ℕ) → operationOf e 0xaa modrm ≡ Rsm
 unfolding operationOf
 is-rsm Cx486 modrm = refl
 is-rsm Mii modrm = refl
 
-rsm-resumes : (m : Machine) (x : Memories) (modrm a next : ℕ)
+pub rsm-resumes : (m : Machine) (x : Memories) (modrm a next : ℕ)
     → wrongSizes x ≡ false → m .halted ≡ false → m .inside ≡ true → permitted m ≡ true → headerFits (settingsOf m) ≡ true
     → stepped m x (Opcode 0xaa modrm a next) ≡ ends (resume m (x .management)) x
 unfolding malformedOn programWhileHalted valid
