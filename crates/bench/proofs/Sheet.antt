@@ -41,6 +41,7 @@ use Rattle.machine.specs.Steps.{portStep, performed, stepped}
 use Rattle.isolation.specs.Service.{Entering, recorded, Entry}
 use Rattle.isolation.specs.Service.Entering.{at-boundary}
 use Rattle.isolation.specs.Examples.{filled}
+use Rattle.isolation.proofs.Cases.{unlike}
 use Rattle.isolation.proofs.Service.{performs, enters-where-due, enters-as-stated}
 use Rattle.isolation.proofs.Examples.{whole, allowed, full}
 use Rattle.bench.specs.Lines.{Line, Smar, IsUsable, LockedCcr1, HeaderAt, EntryCs, EntryCr0, LevelWord, Header, region, Armed, ArmedExample, Before, regionBefore, outcome, Enters, Stores, fromEnd, Example, states, sheet, rowAt, SheetHolds}
@@ -98,7 +99,7 @@ module _ {current : ℕ} {i : Interruption} (b : Before current i) (u : usable (
   unfolding enabled
   enters =
       enters-where-due (b .machine) (b .memory) (Boundary 1 current i) (b .allowed)
-      (at-boundary (b .outside) (rw (b .on, b .closed, u, fits .0)) refl)
+      (at-boundary (rw (b .on, b .closed, u, fits .0)) (λ h. unlike h (b .outside)) refl)
 
   entry-of : Entry (b .machine) (b .memory) (Boundary 1 current i) (outcome b)
   entry-of = enters-as-stated (b .machine) (b .memory) (Boundary 1 current i) enters
@@ -110,7 +111,7 @@ module _ {current : ℕ} {i : Interruption} (b : Before current i) (u : usable (
     where
       go : (by : Entering (b .machine) (Boundary 1 current i)) → Stores b (fromEnd b 48) (headerBytes (recorded (b .machine) by))
           → Stores b (fromEnd b 48) (headerBytes (savedAtBoundary (b .machine) current i))
-      go (at-boundary outside on asked) o = o
+      go (at-boundary on inner asked) o = o
 
   -- the header's word of selector and level, at a place that is 24 bytes into it
   level-word : (at : ℕ) → at ≡ fromEnd b 48 + 24 → (level : Level) (selector : ℕ) → b .machine .registers .level ≡ level
@@ -251,7 +252,7 @@ sound (Header r current i bytes) t =
     let p = and-eq-true-iff (not (malformed (Boundary 1 current i))) _ .0 t in (
       record { before = before r 0x68000 3 current i (not-true _ (p .0)); given = (is-usable, refl, refl) },
       λ b u e f.
-          let found : headerBytes (savedAtBoundary (b .machine) current i) ≡ bytes = rw (e, f) (sameBytes-true _ bytes (p .1)) in
+          let found : headerBytes (savedAtBoundary (b .machine) current i) ≡ bytes = rw (e, f, b .outside) (sameBytes-true _ bytes (p .1)) in
           (enters b u, rw found at (stores b u)),
     )
 
