@@ -63,7 +63,7 @@ headerFits s =
 unfoldable pub headerPlace : Settings → ℕ
 headerPlace s = headerEnd s - headerLength - regionIn s .base
 
--- 01, "Boundary", and 02, request 1: whether SMIs are enabled outside the mode
+-- 01, "Boundary", and 02, requests 1 and 7: whether SMIs are enabled, which is one test inside the mode and outside it
 unfoldable pub enabled : Settings → Bool
 enabled s = useSmi s && not (smac s) && usable (regionIn s) && headerFits s
 
@@ -134,7 +134,7 @@ withEdition s e = record {
 }
 
 -- 02, request 1: the bits that the lock covers outside the mode of the bytes that only the later edition has. Of CCR6 these are SMM_MODE, bit 0,
--- and N, bit 6; no rule reads either.
+-- and N, bit 6 (02, request 7).
 unfoldable pub laterBits : Edition → ℕ → ℕ
 laterBits e i = cond (isMii e) (cond (eqb i 0xea) 0x41 (cond (eqb i 0xb0 || eqb i 0xb1 || eqb i 0xb2 || eqb i 0xb3) 0xff 0)) 0
 

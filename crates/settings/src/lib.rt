@@ -167,7 +167,7 @@ impl Settings {
         none
     }
 
-    // Whether SMIs are enabled outside the mode.
+    // Whether SMIs are enabled.
     pub fn enables_smi(self) -> bool
         ensures { λ r. ⌜ r ≡ enabled self ⌝ }
     {
