@@ -58,22 +58,27 @@ taken-where m asserted e =
     (q .0, q .1, p .1)
 
 module _ (m : Machine) (x : Memories) where
+  -- where the opcodes work there is room for a header that fits
+  pub permitted-able : wrongSizes x ≡ false → permitted m ≡ true → headerFits (settingsOf m) ≡ true → Able m x
+  unfolding permitted opcodesAllowed
+  permitted-able z may fits =
+      let t = settingsOf m in
+      let p = and-eq-true-iff (eqb (levelNumber (m .registers .level)) 0) (opcodesAllowed t (m .inside)) .0 may .1 in
+      let q = and-eq-true-iff (useSmi t && usable (regionIn t)) (m .inside || smac t) .0 p .0 in
+      let r = and-eq-true-iff (useSmi t) (usable (regionIn t)) .0 q in
+      record { sizes = z; on = r .0; usable = r .1; fits = fits }
+
   -- a valid operation whose operand is there
   operated-does : (op modrm a next : ℕ) (o : Operation) → operationOf (editionOf m) op modrm ≡ o → wrongSizes x ≡ false → valid m o ≡ true
       → Does m x (Opcode op modrm a next) (operated m x o a next) 0
-  unfolding operated saved restored smhrStored smhrLoaded resume valid permitted opcodesAllowed
+  unfolding operated saved restored smhrStored smhrLoaded resume valid
   operated-does op modrm a next (Save name) d z e = Does.neither _ (plain refl refl refl)
   operated-does op modrm a next (Restore name) d z e = Does.neither _ (plain refl refl refl)
   operated-does op modrm a next Rdshr d z e = Does.neither _ (plain refl refl refl)
   operated-does op modrm a next Wrshr d z e = Does.neither _ (plain refl refl refl)
   operated-does op modrm a next Smint d z e =
-      let t = settingsOf m in
-      let may = and-eq-true-iff (permitted m) (not (m .inside) && headerFits t) .0 e in
-      let p = and-eq-true-iff (eqb (levelNumber (m .registers .level)) 0) (opcodesAllowed t (m .inside)) .0 (may .0) .1 in
-      let q = and-eq-true-iff (useSmi t && usable (regionIn t)) (m .inside || smac t) .0 p .0 in
-      let r = and-eq-true-iff (useSmi t) (usable (regionIn t)) .0 q in
-      let fits = and-eq-true-iff (not (m .inside)) (headerFits t) .0 (may .1) .1 in
-      Does.enters (by-smint d e) (record { sizes = z; on = r .0; usable = r .1; fits = fits })
+      let may = and-eq-true-iff (permitted m) (not (m .inside) && headerFits (settingsOf m)) .0 e in
+      Does.enters (by-smint d e) (permitted-able z (may .0) (and-eq-true-iff (not (m .inside)) _ .0 (may .1) .1))
   operated-does op modrm a next Rsm d z e = Does.resumes (by-rsm d e)
   operated-does op modrm a next Undefined d z e = unlike e (and-false (permitted m))
 

@@ -135,7 +135,7 @@ entering-fits m (Entering.at-boundary {smi} {current} {i} on inner asked) = enab
 entering-fits m (Entering.by-smint {op} {modrm} {a} {next} d v) =
     last (not (m .inside)) (headerFits (settingsOf m)) (last (permitted m) (allowed (settingsOf m) (m .inside) Smint) v)
 
-resuming-fits : (m : Machine) {s : Step} → Resuming m s → headerFits (settingsOf m) ≡ true
+pub resuming-fits : (m : Machine) {s : Step} → Resuming m s → headerFits (settingsOf m) ≡ true
 unfolding valid
 resuming-fits m (Resuming.by-rsm {op} {modrm} {a} {next} d v) =
     last (m .inside) (headerFits (settingsOf m)) (last (permitted m) (allowed (settingsOf m) (m .inside) Rsm) v)

@@ -154,13 +154,13 @@ recorded-fits m (by-smint {op} {modrm} {a} {next} d v) f w =
 -- ---- what RSM loads back right after entry
 
 -- a step enters in one way only, and records the registers
-same-registers : (m : Machine) {s : Step} (by : Entering m s) → recorded m by .registers ≡ m .registers
+pub one-way : (m : Machine) {s : Step} (by by′ : Entering m s) → recorded m by ≡ recorded m by′
+one-way m (at-boundary o n k) (at-boundary o′ n′ k′) = refl
+one-way m (by-smint d v) (by-smint d′ v′) = refl
+
+pub same-registers : (m : Machine) {s : Step} (by : Entering m s) → recorded m by .registers ≡ m .registers
 same-registers m (at-boundary on inner asked) = refl
 same-registers m (by-smint d v) = refl
-
-same-next : (m : Machine) {s : Step} (by by′ : Entering m s) → recorded m by .next ≡ recorded m by′ .next
-same-next m (at-boundary o n k) (at-boundary o′ n′ k′) = refl
-same-next m (by-smint d v) (by-smint d′ v′) = refl
 
 -- it records where it came from, and comes from inside only where service nests
 pub origin : (m : Machine) {s : Step} (by : Entering m s) → (recorded m by .nested ≡ m .inside) × (m .inside ≡ true → enhanced (settingsOf m) ≡ true)
@@ -219,7 +219,7 @@ module _ (m : Machine) (x : Memories) (s : Step) (by by′ : Entering m s) (able
         registers =
             rw (entered-kept (settingsOf m) .place)
             (registers-back (x .management) (headerPlace (settingsOf m)) (recorded m by) (room m x able) fits
-            ∙ rw (same-registers m by, same-next m by by′));
+            ∙ rw (same-registers m by, one-way m by by′));
         halted = refl;
         inside =
             rw (entered-kept (settingsOf m) .place, nested-back (x .management) (headerPlace (settingsOf m)) (recorded m by) (room m x able) fits)

@@ -1,11 +1,10 @@
 -- Service inside service. Assumes nothing.
 use mathlib.Core.Path.{_≡_, refl, sym, ap, subst, _∙_}
-use mathlib.Core.Bool.{Bool, true, false, _&&_, _||_, and-eq-true-iff}
+use mathlib.Core.Bool.{Bool, true, false, and-eq-true-iff}
 use mathlib.Core.List.{List}
 use mathlib.Core.Logic.{_⊎_, inl, inr, ⊎-elim}
 use Prim.Native.Nat.{ℕ, _+_, _-_, _≤_, _<_}
 use native.Mathlib.Omega.{arith}
-use lib.Dec.{eqb}
 use lib.ListN.{length, getD}
 use Rattle.region.specs.declared.Region.{Region}
 use Rattle.region.specs.Region.{usable}
@@ -19,7 +18,7 @@ use Rattle.refusals.specs.Refusals.{wrongSizes}
 use Rattle.refusals.proofs.Laws.{allowed-taken}
 use Rattle.settings.specs.declared.Edition.the-variants.{Mii}
 use Rattle.settings.specs.declared.Settings.{Settings}
-use Rattle.settings.specs.Settings.{useSmi, smac, smhr, regionIn, headerEnd, headerFits, headerPlace, opcodesAllowed}
+use Rattle.settings.specs.Settings.{smhr, regionIn, headerEnd, headerPlace, opcodesAllowed}
 use Rattle.config.specs.declared.Config.{Config}
 use Rattle.settings_laws.proofs.Place.{place-below-end}
 use Rattle.nesting.specs.Nesting.{enhanced, resumedSettings, staysInside}
@@ -35,13 +34,13 @@ use Rattle.machine.specs.Service.{resume}
 use Rattle.machine.specs.Steps.{permitted, valid, stepped}
 use Rattle.isolation.specs.Widths.{MachineFits}
 use Rattle.isolation.specs.Service.{answerTo, OnlyHeader, Entering, recorded, Resuming, Resume}
-use Rattle.isolation.specs.Service.Entering.{at-boundary, by-smint}
 use Rattle.isolation.specs.Service.Resuming.{by-rsm}
 use Rattle.isolation.proofs.Cases.{unlike}
-use Rattle.isolation.proofs.Doing.{Able}
+use Rattle.isolation.proofs.Doing.{Able, permitted-able}
+use Rattle.isolation.proofs.Edition.{resuming-fits}
 use Rattle.isolation.proofs.Entering.{only-header, room, enters}
 use Rattle.isolation.proofs.Nesting.{entered-kept, resumed-kept}
-use Rattle.isolation.proofs.Service.{answered-allowed, enters-as-stated, resumes-as-stated, resumes-as-entered, recorded-fits, origin, rsm-resumes}
+use Rattle.isolation.proofs.Service.{answered-allowed, enters-as-stated, resumes-as-stated, resumes-as-entered, recorded-fits, one-way, same-registers, origin, rsm-resumes}
 use Rattle.isolation.proofs.Tightness.{resume-determines}
 use Rattle.levels.specs.Levels.{placeOf, headerOf, Stands, OriginRecorded, ReturnsThrough, Overwritten, NeverOut, Moved, BothStand, BothReturn, NothingNests}
 
@@ -95,16 +94,6 @@ stands-written g at s room stands i l = stands i l ∙ sym (only-header g at s r
 
 -- ---- one header
 
--- a step enters in one way only
-one-way : (m : Machine) {s : Step} (by by′ : Entering m s) → recorded m by ≡ recorded m by′
-one-way m (at-boundary o n k) (at-boundary o′ n′ k′) = refl
-one-way m (by-smint d v) (by-smint d′ v′) = refl
-
--- and records the registers
-registers-of : (m : Machine) {s : Step} (by : Entering m s) → recorded m by .registers ≡ m .registers
-registers-of m (at-boundary o n k) = refl
-registers-of m (by-smint d v) = refl
-
 -- the header that an entry writes, by any name of the way
 pub entry-header : (m : Machine) (x : Memories) (s : Step) → answerTo m x s ≡ 11 → (by : Entering m s)
     → OnlyHeader (x .management) (stepped m x s .memory .management) (placeOf m) (headerOf m by)
@@ -114,14 +103,8 @@ entry-header m x s h by =
 
 -- where RSM is valid there is room for a header
 resuming-able : (k : Machine) (y : Memories) {s : Step} → Resuming k s → wrongSizes y ≡ false → Able k y
-unfolding valid permitted opcodesAllowed
-resuming-able k y (by-rsm d v) z =
-    let t = settingsOf k in
-    let may = and-eq-true-iff (permitted k) (k .inside && headerFits t) .0 v in
-    let p = and-eq-true-iff (eqb (levelNumber (k .registers .level)) 0) (opcodesAllowed t (k .inside)) .0 (may .0) .1 in
-    let q = and-eq-true-iff (useSmi t && usable (regionIn t)) (k .inside || smac t) .0 p .0 in
-    let r = and-eq-true-iff (useSmi t) (usable (regionIn t)) .0 q in
-    record { sizes = z; on = r .0; usable = r .1; fits = and-eq-true-iff (k .inside) (headerFits t) .0 (may .1) .1 }
+unfolding valid
+resuming-able k y (by-rsm d v) z = permitted-able k y z (and-eq-true-iff (permitted k) _ .0 v .0) (resuming-fits k (by-rsm d v))
 
 pub returns-through : ReturnsThrough
 unfolding staysInside
@@ -136,7 +119,7 @@ returns-through m k y s modrm a next f w by stands h =
     let there = room k y (resuming-able k y (r .by) sized) in
     let same = stands-written g at saved there stands in
     record {
-      registers = r .registers ∙ resumed-same g (headed g at saved) at same ∙ registers-back g at saved there fits ∙ rw (registers-of m by);
+      registers = r .registers ∙ resumed-same g (headed g at saved) at same ∙ registers-back g at saved there fits ∙ rw (same-registers m by);
       inside = r .inside ∙ rw (nested-same g (headed g at saved) at same, nested-back g at saved there fits, origin m by .0);
     }
 
@@ -158,7 +141,7 @@ module _ (m : Machine) (x : Memories) (s : Step) (f : MachineFits m) (w : StepFi
   registers-there =
       resumed-same after written (placeOf m) as-written
       ∙ registers-back (x .management) (placeOf m) (recorded m by) there (recorded-fits m by f w)
-      ∙ rw (registers-of m by)
+      ∙ rw (same-registers m by)
 
   origin-there : nestedIn after (placeOf m) ≡ m .inside
   origin-there =

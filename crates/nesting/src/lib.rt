@@ -1,4 +1,5 @@
 ghost use mathlib.Core.Path.{_≡_};
+ghost use mathlib.Core.Bool.{cond};
 ghost use Prim.Native.Nat.{_≤_};
 ghost use Rattle.nesting.specs.Nesting.{smmMode, bitN, withN, enhanced, enteredSettings, resumedSettings, nestable, takes, staysInside};
 ghost use Rattle.nesting.specs.Moving.{EnhancedAsked, OnlyNMoves, NothingMoves, LastMoves};
@@ -15,34 +16,31 @@ fn is_enhanced(s: Settings) -> bool
     false
 }
 
-// The settings with another N, 0 or 1.
-fn with_n(s: Settings, n: u8) -> Settings
+// The settings with another N, 0 or 1, where service can nest.
+fn moved(s: Settings, n: u8) -> Settings
     requires { ⌜ n ≤ 1 ⌝ }
-    ensures { λ r. ⌜ r ≡ withN s n ⌝ }
+    ensures { λ r. ⌜ r ≡ cond (enhanced s) (withN s n) s ⌝ }
 {
-    let mut next = s;
-    next.ccr6 = s.ccr6 / 128 * 128 + 64 * n + s.ccr6 % 64;
-    next
+    if is_enhanced(s) {
+        let mut next = s;
+        next.ccr6 = s.ccr6 / 128 * 128 + 64 * n + s.ccr6 % 64;
+        return next;
+    }
+    s
 }
 
 // The settings after entry.
 pub fn entered(s: Settings) -> Settings
     ensures { λ r. ⌜ r ≡ enteredSettings s ⌝ }
 {
-    if is_enhanced(s) {
-        return with_n(s, 0);
-    }
-    s
+    moved(s, 0)
 }
 
 // The settings after RSM.
 pub fn resumed(s: Settings) -> Settings
     ensures { λ r. ⌜ r ≡ resumedSettings s ⌝ }
 {
-    if is_enhanced(s) {
-        return with_n(s, 1);
-    }
-    s
+    moved(s, 1)
 }
 
 // Whether an SMI may interrupt a handler.
