@@ -104,7 +104,8 @@ entry-header m x s h by =
 -- where RSM is valid there is room for a header
 resuming-able : (k : Machine) (y : Memories) {s : Step} → Resuming k s → wrongSizes y ≡ false → Able k y
 unfolding valid
-resuming-able k y (by-rsm d v) z = permitted-able k y z (and-eq-true-iff (permitted k) _ .0 v .0) (resuming-fits k (by-rsm d v))
+resuming-able k y (by-rsm {op} {modrm} {a} {next} d v) z =
+    permitted-able k y z (and-eq-true-iff (permitted k) _ .0 v .0) (resuming-fits k (by-rsm {op = op} {modrm = modrm} {a = a} {next = next} d v))
 
 pub returns-through : ReturnsThrough
 unfolding staysInside
