@@ -3,11 +3,34 @@ use mathlib.Core.Path.{_≡_, refl, ap, _∙_}
 use mathlib.Core.Bool.{Bool, true, false, and-false}
 use Prim.Native.Nat.{ℕ, _+_, _*_, _/_, _%_, _≤_}
 use native.Mathlib.Omega.{arith}
-use borrow.Author.Tests.{eq-eqb, ne-eqb}
+use lib.Dec.{eqb}
+use borrow.Author.Tests.{eqb-false, eq-eqb, ne-eqb}
 use Rattle.settings.specs.declared.Settings.{Settings}
 use Rattle.settings.specs.Settings.{isMii, byteOf, withByte}
 use Rattle.nesting.specs.Nesting.{smmMode, withN, enhanced, enteredSettings, resumedSettings}
-use Rattle.nesting.specs.Moving.{OnlyN, EnhancedAsked, OnlyNMoves, NothingMoves, LastMoves}
+use Rattle.nesting.specs.Moving.{OnlyN, OnlyNDetermines, EnhancedAsked, OnlyNMoves, NothingMoves, LastMoves}
+
+pub only-n-determines : OnlyNDetermines
+unfolding withN withByte byteOf
+only-n-determines s t n k =
+    let other : (i : ℕ) → eqb i 0xea ≡ false → byteOf t i ≡ byteOf s i = λ i e. k .others i (eqb-false i 0xea e) in
+    let ccr6 : t .ccr6 ≡ s .ccr6 / 128 * 128 + 64 * n + s .ccr6 % 64 = whole (t .ccr6) (s .ccr6) n (k .low) (k .nesting) (k .high) in
+    λ i. record {
+      edition = k .edition i;
+      ccr1 = other 0xc1 refl i;
+      ccr3 = other 0xc3 refl i;
+      high = other 0xcd refl i;
+      middle = other 0xce refl i;
+      low = other 0xcf refl i;
+      ccr6 = ccr6 i;
+      smhr0 = other 0xb0 refl i;
+      smhr1 = other 0xb1 refl i;
+      smhr2 = other 0xb2 refl i;
+      smhr3 = other 0xb3 refl i;
+    }
+  where
+    whole : (c d n : ℕ) → c % 64 ≡ d % 64 → c / 64 % 2 ≡ n → c / 128 ≡ d / 128 → c ≡ d / 128 * 128 + 64 * n + d % 64
+    whole c d n low bit high = omega arith
 
 pub enhanced-asked : EnhancedAsked
 unfolding enhanced

@@ -5,7 +5,7 @@ use mathlib.Core.Bool.{true, false}
 use Rattle.settings.specs.declared.Edition.the-variants.{Cx486, Mii}
 use Rattle.settings.specs.declared.Settings.{Settings}
 use Rattle.settings.specs.Settings.{byteOf}
-use Rattle.nesting.specs.Nesting.{enhanced, enteredSettings, resumedSettings}
+use Rattle.nesting.specs.Nesting.{withN, enhanced, enteredSettings, resumedSettings}
 
 -- settings t that are s with N at n: the edition, the bytes at all other indexes, and the other bits of CCR6 are as they were
 pub record OnlyN (s t : Settings) (n : ℕ) : Type 0 where
@@ -14,6 +14,10 @@ pub record OnlyN (s t : Settings) (n : ℕ) : Type 0 where
   pub low : t .ccr6 % 64 ≡ s .ccr6 % 64
   pub nesting : t .ccr6 / 64 % 2 ≡ n
   pub high : t .ccr6 / 128 ≡ s .ccr6 / 128
+
+-- which leaves nothing open
+abbrev pub OnlyNDetermines : Type 0
+OnlyNDetermines = (s t : Settings) (n : ℕ) → OnlyN s t n → t ≡ withN s n
 
 -- service nests in the later edition with CCR6 bit 0 at 1, and nowhere else
 abbrev pub EnhancedAsked : Type 0
