@@ -44,7 +44,7 @@ rep-awake false smi current i formed e = refl
 rep-awake true smi current i formed e = unlike (rw (rep-interrupts i e) (or-true (malformed (Boundary smi current i)))) formed
 
 -- a boundary enters in one way
-at-one : (m : Machine) {smi current : ℕ} {i : Interruption} (by : Entering m (Boundary smi current i))
+pub at-one : (m : Machine) {smi current : ℕ} {i : Interruption} (by : Entering m (Boundary smi current i))
     → recorded m by ≡ savedAtBoundary m current i
 at-one m (at-boundary on inner asked) = refl
 

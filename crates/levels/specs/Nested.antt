@@ -1,4 +1,4 @@
--- Examples of what the theorems of this crate ask for, so that none of them speaks of nothing.
+-- Examples of what the theorems of this crate ask for, so that none of them speaks of nothing, and what each says of its example.
 use Prim.Native.Nat.{ℕ}
 use mathlib.Core.Path.{_≡_}
 use mathlib.Core.Bool.{true, false}
@@ -9,21 +9,21 @@ use Rattle.steps.specs.declared.Step.the-variants.{Boundary}
 use Rattle.steps.specs.declared.Interruption.the-variants.{None}
 use Rattle.settings.specs.declared.Edition.the-variants.{Cx486, Mii}
 use Rattle.settings.specs.Settings.{withSmhr}
-use Rattle.nesting.specs.Nesting.{enhanced}
-use Rattle.header.specs.Header.{levelNumber}
+use Rattle.header.specs.Header.{nestedIn, withEip}
 use Rattle.segments.specs.Segments.{resetSegments}
 use Rattle.machine.specs.declared.Machine.{Machine}
-use Rattle.machine.specs.Machines.{machine, settingsOf, resetRegisters}
+use Rattle.machine.specs.Machines.{machine, resetRegisters}
+use Rattle.machine.specs.Outcomes.{Outcome}
 use Rattle.machine.specs.Steps.{stepped}
-use Rattle.isolation.specs.Widths.{MachineFits}
-use Rattle.isolation.specs.Service.{answerTo, Entering}
+use Rattle.isolation.specs.Service.{answerTo, OnlyHeader, Entering}
 use Rattle.isolation.specs.Examples.{sampleSettings, locked, filled, rsm, EntryExample}
 use Rattle.levels.specs.Levels.{placeOf, headerOf, Stands, Moved}
 
--- The handler of the later edition's `locked` machine, which enters with SMHR at 6A001h: inside, with SMM_MODE and N set, and with SMHR as given.
+-- A handler of the later edition's `locked` machine, which enters from EIP FFF0h with SMHR at 6A001h: inside, at EIP 20h, with SMM_MODE and N
+-- set, and with SMHR as given.
 abbrev pub handler : ℕ → Machine
 handler shr =
-    machine resetRegisters resetSegments false true false
+    machine (withEip resetRegisters 0x20) resetSegments false true false
     (record { settings = withSmhr (sampleSettings Mii 0x02 0x01) shr; index = 0; armed = false })
 
 -- a boundary with an SMI asserted
@@ -37,29 +37,37 @@ afterOuter = memories [] (stepped (locked Mii) (filled 0) met .memory .managemen
 abbrev pub afterInner : ℕ → Memories
 afterInner shr = memories [] (stepped (handler shr) afterOuter met .memory .management)
 
--- an entry from inside at level 0, with RSM right after it, and two entries at one place; a machine on which nothing nests enters too
+-- what RSM leaves after a step's outcome
+abbrev pub thenRsm : Outcome → Outcome
+thenRsm o = stepped (o .stepped .machine) (o .memory) rsm
+
+-- two entries at one place: the second comes from inside, and after it every RSM leads to where the first has led
 pub record NestedExample : Type 0 where
   pub entry : EntryExample (handler 0x6a001) met
-  pub level : levelNumber (handler 0x6a001 .registers .level) ≡ 0
+  pub origin : nestedIn (stepped (handler 0x6a001) (filled 0) met .memory .management) (placeOf (handler 0x6a001)) ≡ true
   pub outer : answerTo (locked Mii) (filled 0) met ≡ 11
   pub inner : answerTo (handler 0x6a001) afterOuter met ≡ 11
-  pub place : placeOf (handler 0x6a001) ≡ placeOf (locked Mii)
-  pub none : enhanced (settingsOf (locked Cx486)) ≡ false
-  pub enters : answerTo (locked Cx486) (filled 0) met ≡ 11
+  pub by : Entering (handler 0x6a001) met
+  pub over : OnlyHeader (filled 0 .management) (afterInner 0x6a001 .management) (placeOf (locked Mii)) (headerOf (handler 0x6a001) by)
+  pub first : thenRsm (stepped (handler 0x6a001) afterOuter met) .stepped .machine .inside ≡ true
+  pub again : let o = thenRsm (stepped (handler 0x6a001) afterOuter met) in thenRsm o ≡ o
+  -- nothing nests in the 486 edition
+  pub none : stepped (locked Cx486) (filled 0) met .stepped .machine .config ≡ locked Cx486 .config
 
--- two entries with SMHR moved down by just 48, to 69FD1h, or up by as much, to 6A031h, and RSM with SMHR back where it was
-pub record MovedExample (shr : ℕ) : Type 0 where
-  pub fits : MachineFits (handler shr)
+-- Two entries with SMHR moved to the place given: RSM right after the inner one is back in the handler, and RSM with SMHR back where it was is
+-- outside, where the outer one came from.
+pub record MovedExample (shr : ℕ) (outer : Entering (locked Mii) met) : Type 0 where
   pub second : answerTo (handler shr) afterOuter met ≡ 11
   pub moved : Moved (locked Mii) (handler shr)
-  pub inner : Entering (handler shr) met
-  pub place : placeOf (handler 0x6a001) ≡ placeOf (locked Mii)
-  pub resumed : answerTo (handler 0x6a001) (afterInner shr) rsm ≡ 12
+  pub by : Entering (handler shr) met
+  pub both : let g = afterInner shr .management in
+      Stands g (placeOf (locked Mii)) (headerOf (locked Mii) outer) × Stands g (placeOf (handler shr)) (headerOf (handler shr) by)
+  pub back : let n = thenRsm (stepped (handler shr) afterOuter met) .stepped .machine in (n .inside ≡ true) × (n .registers .eip ≡ 0x20)
+  pub out : let n = stepped (handler 0x6a001) (afterInner shr) rsm .stepped .machine in (n .inside ≡ false) × (n .registers .eip ≡ 0xfff0)
 
+-- it is moved down by just 48, to 69FD1h, or up by as much, to 6A031h
 pub record LevelsExample : Type 0 where
-  pub fits : MachineFits (locked Mii)
   pub first : answerTo (locked Mii) (filled 0) met ≡ 11
   pub outer : Entering (locked Mii) met
-  pub stands : Stands (afterOuter .management) (placeOf (locked Mii)) (headerOf (locked Mii) outer)
-  pub down : MovedExample 0x69fd1
-  pub up : MovedExample 0x6a031
+  pub down : MovedExample 0x69fd1 outer
+  pub up : MovedExample 0x6a031 outer
