@@ -8,11 +8,11 @@ use borrow.Author.Tests.{ne-eqb, lt-leb, lt-ltb}
 use lib.Dec.{lit<}
 use lib.ListN.{replicate, take}
 use Rattle.fields.specs.Fields.{bytesOf}
-use Rattle.journal.specs.Area.{slotCount, firstFree, ceilingBefore, ceiling}
+use Rattle.slots.specs.Area.{slotCount, firstFree, ceilingBefore, ceiling}
+use Rattle.slots.proofs.Holding.{Holds, formed, first-free, ceiling-is}
 use Rattle.journal.specs.Stores.{upward, stores, storeCount, made}
 use Rattle.journal.specs.Answers.{counter, nextOf, refusesRaise, raiseOf, raisePartOf}
-use Rattle.journal.proofs.Holding.{Holds, formed, first-free, ceiling-is}
-use Rattle.journal.proofs.Raising.{torn-holds, torn-ceiling, done-holds, done-ceiling}
+use Rattle.recovery.proofs.Raising.{torn-holds, torn-ceiling, done-holds, done-ceiling}
 use Rattle.histories.specs.Histories.{Run, off, on, IsU64, History, fresh, restart, next, raise, part, power-off}
 use Rattle.histories.specs.Example.{slotBytes, tornBytes, ExampleHistory}
 use Rattle.histories.proofs.Every.{ready, fresh-holds}

@@ -8,19 +8,19 @@ use borrow.Author.Tests.{ltb-true}
 use lib.Dec.{ltb}
 use lib.ListN.{length, getD, replicate}
 use Rattle.fields.specs.Fields.{numberBy, fieldAt}
+use Rattle.slots.specs.Area.{areaSize, wellFormed, ceiling}
+use Rattle.slots.proofs.Holding.{Holds, formed}
+use Rattle.slots.proofs.Searching.{false-true, and-right}
 use Rattle.journal.specs.declared.Counter.{Counter}
 use Rattle.journal.specs.declared.Started.{Started}
 use Rattle.journal.specs.declared.Started.the-variants as start
 use Rattle.journal.specs.declared.Handed.{Handed}
 use Rattle.journal.specs.declared.Handed.the-variants as hand
-use Rattle.journal.specs.Area.{areaSize, wellFormed, ceiling}
 use Rattle.journal.specs.Stores.{storeCount}
 use Rattle.journal.specs.Answers.{counter, restartOf, nextOf}
-use Rattle.journal.specs.Cuts.{Finds}
-use Rattle.journal.proofs.Holding.{Holds, formed}
-use Rattle.journal.proofs.Slots.{false-true, and-right}
 use Rattle.journal.proofs.Answering.{part-whole}
-use Rattle.journal.proofs.Raising.{Kept, part-keeps, raise-survives}
+use Rattle.recovery.specs.Cuts.{Finds}
+use Rattle.recovery.proofs.Raising.{Kept, part-keeps, raise-survives}
 use Rattle.histories.specs.Histories.{Run, off, on, History, fresh, restart, next, raise, part, power-off, StrictlyRising, EveryHistory}
 use Rattle.histories.proofs.Lists.{AllBelow, below-higher, below-last, rises-last}
 

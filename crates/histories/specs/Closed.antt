@@ -4,15 +4,15 @@ use mathlib.Core.Path.{_≡_}
 use mathlib.Core.List.{List, [], _∷_, _++_}
 use Prim.Native.Nat.{ℕ, _<_}
 use lib.ListN.{length, getD}
+use Rattle.slots.specs.Area.{ceiling}
 use Rattle.journal.specs.declared.Counter.{Counter}
 use Rattle.journal.specs.declared.Started.{Started}
 use Rattle.journal.specs.declared.Started.the-variants as start
 use Rattle.journal.specs.declared.Handed.{Handed}
 use Rattle.journal.specs.declared.Handed.the-variants as hand
 use Rattle.journal.specs.declared.Raised.{Raised}
-use Rattle.journal.specs.Area.{ceiling}
 use Rattle.journal.specs.Answers.{counter}
-use Rattle.journal.specs.Cuts.{foundAfter}
+use Rattle.recovery.specs.Cuts.{foundAfter}
 use Rattle.histories.specs.Histories.{Run, off, on, History, Promised}
 
 -- a restart, at any time, begins a run at the ceiling of area a

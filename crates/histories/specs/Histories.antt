@@ -3,12 +3,12 @@ use mathlib.Core.Path.{_≡_}
 use mathlib.Core.List.{List, [], _∷_, _++_}
 use Prim.Native.Nat.{ℕ, _^_, _<_}
 use lib.ListN.{length, getD, replicate}
+use Rattle.slots.specs.Area.{areaSize, ceiling}
 use Rattle.journal.specs.declared.Counter.{Counter}
 use Rattle.journal.specs.declared.Started.the-variants as start
 use Rattle.journal.specs.declared.Handed.the-variants as hand
-use Rattle.journal.specs.Area.{areaSize, ceiling}
 use Rattle.journal.specs.Answers.{restartOf, nextOf, raiseOf, raisePartOf}
-use Rattle.journal.specs.Cuts.{Finds, SurvivesCuts}
+use Rattle.recovery.specs.Cuts.{Finds, SurvivesCuts}
 
 -- whether a run is on, and with which counter: a restart begins it, and a power cut ends it
 pub data Run : Type 0 where

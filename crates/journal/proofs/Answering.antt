@@ -7,17 +7,17 @@ use native.Mathlib.Omega.{arith}
 use borrow.Author.Tests.{eq-eqb, ne-eqb, lt-ltb, le-ltb, lt-leb, le-leb}
 use lib.ListN.{take}
 use lib.Seq.{take-all}
+use Rattle.slots.specs.declared.Contents.{Contents}
+use Rattle.slots.specs.declared.Contents.the-variants.{Ceilings, Malformed}
+use Rattle.slots.specs.Area.{slotCount, free, wellFormed, firstFree, ceiling}
+use Rattle.slots.specs.Contents.{contentsOf}
+use Rattle.slots.proofs.Searching.{false-true, first-most}
 use Rattle.journal.specs.declared.Counter.{Counter}
 use Rattle.journal.specs.declared.Started.the-variants as start
 use Rattle.journal.specs.declared.Handed.the-variants as hand
 use Rattle.journal.specs.declared.Raised.the-variants as rise
-use Rattle.journal.specs.declared.Contents.{Contents}
-use Rattle.journal.specs.declared.Contents.the-variants.{Ceilings, Malformed}
-use Rattle.journal.specs.Area.{slotCount, free, wellFormed, firstFree, ceiling}
-use Rattle.journal.specs.Contents.{contentsOf}
 use Rattle.journal.specs.Stores.{stores, storeCount, made}
 use Rattle.journal.specs.Answers.{counter, restartOf, nextOf, refusesRaise, left, raiseOf, raisePartOf}
-use Rattle.journal.proofs.Slots.{false-true, first-most}
 use Rattle.journal.proofs.Bytes.{eleven}
 
 -- ---- what was read tells of the area

@@ -12,8 +12,8 @@ use lib.ListN.{length, getD, set, take, length-set}
 use lib.Seq.{take-suc, take-all, getD-append-add}
 use Rattle.fields.specs.Fields.{bytesOf}
 use Rattle.fields.proofs.Laws.{length-bytesOf}
+use Rattle.slots.specs.Area.{placeOf, length-field, kind-field, takenLength, takenKind}
 use Rattle.journal.specs.declared.Store.{Store}
-use Rattle.journal.specs.Area.{placeOf, length-field, kind-field, takenLength, takenKind}
 use Rattle.journal.specs.Stores.{store, upward, stores, storeCount, made}
 
 -- byte i of a number

@@ -4,6 +4,7 @@ use mathlib.Core.Bool.{Bool, cond, not, _&&_, _||_}
 use mathlib.Core.List.{List}
 use lib.ListN.{take}
 use lib.Dec.{eqb, leb, ltb}
+use Rattle.slots.specs.Area.{slotCount, wellFormed, firstFree, ceiling}
 use Rattle.journal.specs.declared.Counter.{Counter}
 use Rattle.journal.specs.declared.Started.{Started}
 use Rattle.journal.specs.declared.Started.the-variants as start
@@ -11,7 +12,6 @@ use Rattle.journal.specs.declared.Handed.{Handed}
 use Rattle.journal.specs.declared.Handed.the-variants as hand
 use Rattle.journal.specs.declared.Raised.{Raised}
 use Rattle.journal.specs.declared.Raised.the-variants as rise
-use Rattle.journal.specs.Area.{slotCount, wellFormed, firstFree, ceiling}
 use Rattle.journal.specs.Stores.{stores, made}
 
 abbrev pub counter : ℕ → Counter

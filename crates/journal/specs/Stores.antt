@@ -3,8 +3,8 @@ use Prim.Native.Nat.{ℕ, _+_}
 use mathlib.Core.List.{List, [], _∷_, _++_}
 use lib.ListN.{set}
 use Rattle.fields.specs.Fields.{bytesOf}
+use Rattle.slots.specs.Area.{length-field, kind-field, ceiling-field, width, placeOf, takenLength, takenKind}
 use Rattle.journal.specs.declared.Store.{Store}
-use Rattle.journal.specs.Area.{length-field, kind-field, ceiling-field, width, placeOf, takenLength, takenKind}
 
 -- a byte at a place
 abbrev pub store : ℕ → ℕ → Store

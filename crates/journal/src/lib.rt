@@ -1,29 +1,18 @@
 // The record counter's journal over a lent area (02, request 4): ceilings that outlive a power cut, and the numbers below them.
+use slots::Contents;
+use slots::KIND_AT;
+use slots::SLOT_COUNT;
+use slots::SLOT_SIZE;
+use slots::TAKEN_KIND;
+use slots::TAKEN_LENGTH;
 ghost use mathlib.Core.Path.{_≡_};
-ghost use mathlib.Core.Bool.{true, false, cond};
-ghost use Prim.Native.Nat.{ℕ, _-_, _*_, _/_, _%_, _^_, _<_, _≤_};
+ghost use mathlib.Core.Bool.{cond};
+ghost use Prim.Native.Nat.{_-_, _*_, _/_, _%_, _^_, _<_};
 ghost use lib.Dec.{eqb};
 ghost use lib.ListN.{getD, set, take};
-ghost use Rattle.journal.specs.declared.Started.the-variants.{Ready};
-ghost use Rattle.journal.specs.Area.{slotCount, lengthOf, kindOf, ceilingOf, ceilingBefore, ceiling, wellFormed};
+ghost use Rattle.slots.specs.Area.{slotCount};
 ghost use Rattle.journal.specs.Stores.{store, stores, storeCount, made};
-ghost use Rattle.journal.specs.Answers.{counter, restartOf, nextOf, left, raiseOf, raisePartOf};
-ghost use Rattle.journal.specs.Cuts.{foundAfter};
-ghost use Rattle.journal.specs.Contents.{continues, contentsOf};
-
-const AREA_SIZE: usize = 4096;
-
-const SLOT_COUNT: usize = 341;
-
-const SLOT_SIZE: usize = 12;
-// Where the kind and the ceiling begin in a slot; its length is at its start.
-const KIND_AT: usize = 2;
-
-const CEILING_AT: usize = 4;
-
-const TAKEN_LENGTH: u16 = 10;
-
-const TAKEN_KIND: u16 = 1;
+ghost use Rattle.journal.specs.Answers.{restartOf, nextOf, left, raiseOf, raisePartOf};
 
 // The byte stores of a raise.
 const STORE_COUNT: u8 = 11;
@@ -55,110 +44,10 @@ pub struct Store {
     pub byte: u8,
 }
 
-// What an area holds: how many slots are taken, and the last ceiling.
-pub enum Contents {
-    Ceilings(usize, u64),
-    Malformed,
-}
-
-// Slots from the first on that are taken, in order: how many, and the last ceiling.
-struct Prefix {
-    count: usize,
-    ceiling: u64,
-}
-
-fn length_of(area: &[u8], slot: usize) -> u16
-    requires { ⌜ slot < slotCount ⌝ }
-    ensures { λ r. ⌜ r ≡ lengthOf (now (area .entry)) slot ⌝ }
-{
-    fields::half(area, SLOT_SIZE * slot)
-}
-
-fn kind_of(area: &[u8], slot: usize) -> u16
-    requires { ⌜ slot < slotCount ⌝ }
-    ensures { λ r. ⌜ r ≡ kindOf (now (area .entry)) slot ⌝ }
-{
-    fields::half(area, SLOT_SIZE * slot + KIND_AT)
-}
-
-fn ceiling_of(area: &[u8], slot: usize) -> u64
-    requires { ⌜ slot < slotCount ⌝ }
-    ensures { λ r. ⌜ r ≡ ceilingOf (now (area .entry)) slot ⌝ }
-{
-    fields::long(area, SLOT_SIZE * slot + CEILING_AT)
-}
-
-// Whether a slot is taken, has the right kind, and holds more than the last ceiling before it.
-fn is_next(area: &[u8], slot: usize, last: u64) -> bool
-    requires { ⌜ (slot < slotCount) × (last ≡ ceilingBefore (now area) slot) ⌝ }
-    ensures { λ r. ⌜ r ≡ continues (now (area .entry)) slot ⌝ }
-{
-    if length_of(area, slot) != TAKEN_LENGTH {
-        return false;
-    }
-    if kind_of(area, slot) != TAKEN_KIND {
-        return false;
-    }
-    if slot == 0 {
-        return true;
-    }
-    last < ceiling_of(area, slot)
-}
-
-fn leading(area: &[u8]) -> Prefix
-    ensures fits { λ r. ⌜ r .count ≤ slotCount ⌝ }
-    ensures last { λ r. ⌜ r .ceiling ≡ ceilingBefore (now (area .entry)) (r .count) ⌝ }
-    ensures each { λ r. ⌜ ((k : ℕ) → k < r .count → continues (now (area .entry)) k ≡ true) ⌝ }
-    ensures stops { λ r. ⌜ (r .count < slotCount → continues (now (area .entry)) (r .count) ≡ false) ⌝ }
-{
-    let mut count = 0;
-    let mut ceiling: u64 = 0;
-    while count < SLOT_COUNT {
-        if is_next(area, count, ceiling) {
-            ceiling = ceiling_of(area, count);
-            count = count + 1;
-        } else {
-            return Prefix { count, ceiling };
-        }
-    }
-    Prefix { count, ceiling }
-}
-
-// Whether every slot from one on is free.
-fn is_free_from(area: &[u8], slot: usize) -> bool
-    requires { ⌜ slot ≤ slotCount ⌝ }
-    ensures sound { λ r. ⌜ ((k : ℕ) → r ≡ true → slot ≤ k → k < slotCount → lengthOf (now (area .entry)) k ≡ 0) ⌝ }
-    ensures complete { λ r. ⌜ (((k : ℕ) → slot ≤ k → k < slotCount → lengthOf (now (area .entry)) k ≡ 0) → r ≡ true) ⌝ }
-{
-    let mut k = slot;
-    while k < SLOT_COUNT {
-        if length_of(area, k) != 0 {
-            return false;
-        }
-        k = k + 1;
-    }
-    true
-}
-
-// One pass: the taken slots, and then the free ones.
-pub fn read(area: &[u8]) -> Contents
-    ensures { λ r. ⌜ r ≡ contentsOf (now (area .entry)) ⌝ }
-{
-    if area.len() != AREA_SIZE {
-        return Contents::Malformed;
-    }
-    let prefix = leading(area);
-    let count = prefix.count;
-    if is_free_from(area, count) {
-        return Contents::Ceilings(count, prefix.ceiling);
-    }
-    Contents::Malformed
-}
-
 pub fn restart(area: &[u8]) -> Started
     ensures { λ r. ⌜ r ≡ restartOf (now (area .entry)) ⌝ }
 {
-    let found = read(area);
+    let found = slots::read(area);
     match found {
         Contents::Ceilings(_, ceiling) => return Started::Ready(Counter { next: ceiling }),
         Contents::Malformed => return Started::Refused,
@@ -169,7 +58,7 @@ pub fn next(counter: Counter, area: &[u8]) -> Handed
     ensures { λ r. ⌜ r ≡ nextOf counter (now (area .entry)) ⌝ }
 {
     let number = counter.next;
-    let found = read(area);
+    let found = slots::read(area);
     match found {
         Contents::Ceilings(_, ceiling) => {
             if number < ceiling {
@@ -246,7 +135,7 @@ fn store_all(area: &mut [u8], slot: usize, value: u64, power: u8)
 pub fn raise_part(area: &mut [u8], value: u64, n: u8) -> Raised
     ensures { λ r. ⌜ left r (now (area .exit)) ≡ raisePartOf (now (area .entry)) value n ⌝ }
 {
-    let found = read(area);
+    let found = slots::read(area);
     match found {
         Contents::Ceilings(count, ceiling) => {
             if count == SLOT_COUNT {
@@ -266,31 +155,4 @@ pub fn raise(area: &mut [u8], value: u64) -> Raised
     ensures { λ r. ⌜ left r (now (area .exit)) ≡ raiseOf (now (area .entry)) value ⌝ }
 {
     raise_part(area, value, STORE_COUNT)
-}
-
-// What a raise and the restart after it answer.
-struct Outcome {
-    answer: Raised,
-    found: Started,
-}
-
-// Not called: they hold the check to what a restart finds after a raise, whole or cut, on every well-formed area.
-fn restart_after_part(area: &mut [u8], value: u64, n: u8) -> Outcome
-    ensures { λ r. ⌜ (wellFormed (now (area .entry)) ≡ true → r .found ≡ Ready (counter (foundAfter (r .answer) (ceiling (now (area .entry))) value n))) ⌝ }
-{
-    let answer = raise_part(area, value, n);
-    Outcome {
-        answer,
-        found: restart(area),
-    }
-}
-
-fn restart_after_raise(area: &mut [u8], value: u64) -> Outcome
-    ensures { λ r. ⌜ (wellFormed (now (area .entry)) ≡ true → r .found ≡ Ready (counter (foundAfter (r .answer) (ceiling (now (area .entry))) value storeCount))) ⌝ }
-{
-    let answer = raise(area, value);
-    Outcome {
-        answer,
-        found: restart(area),
-    }
 }

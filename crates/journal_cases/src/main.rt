@@ -1,12 +1,12 @@
 // Plays a script over the record counter's journal (02, request 4), and writes it with the answer behind each command.
 // A line is a name, a colon, and commands with their numbers; a semicolon or the line's end closes each. The colon brings a fresh area.
-use journal::Contents;
 use journal::Counter;
 use journal::Handed;
 use journal::Raised;
 use journal::Started;
 use libc::STDIN_FILENO;
 use libc::STDOUT_FILENO;
+use slots::Contents;
 
 // The first two letters of each command, as a number.
 const RESTART: u16 = 0x7265;
@@ -202,7 +202,7 @@ fn called(area: &mut [u8], script: Script) -> u64 {
         NUMBER => return number(area, script.next),
         RAISE => say_raised(journal::raise(area, script.third)),
         CUT => say_raised(journal::raise_part(area, script.second, (script.third % 256) as u8)),
-        TAKEN => say_contents(journal::read(area)),
+        TAKEN => say_contents(slots::read(area)),
         SLOT => say_slot(area, (script.third % 65536) as u16),
         FILL => say_number(filled(area, (script.third % 65536) as u16) as u64),
         _ => say(b" unknown"),

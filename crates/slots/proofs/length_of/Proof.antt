@@ -2,8 +2,8 @@ use mathlib.Core.Path.{_≡_}
 use Prim.Native.Nat.{_+_, _*_}
 use native.Mathlib.Omega.{arith}
 use borrow.Author.Needs.{needs}
-use Rattle.journal.proofs.length_of.Statement.{statement}
-use Rattle.journal.proofs.length_of.Tie as tie
+use Rattle.slots.proofs.length_of.Statement.{statement}
+use Rattle.slots.proofs.length_of.Tie as tie
 
 mul-half : tie.Need-mul-half
 mul-half c = search needs

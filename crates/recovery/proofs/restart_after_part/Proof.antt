@@ -1,8 +1,8 @@
 use native.Mathlib.Omega.{arith}
-use Rattle.journal.proofs.Raising.{part-found}
+use Rattle.recovery.proofs.Raising.{part-found}
 use borrow.Author.Needs.{needs}
-use Rattle.journal.proofs.restart_after_part.Statement.{statement}
-use Rattle.journal.proofs.restart_after_part.Tie as tie
+use Rattle.recovery.proofs.restart_after_part.Statement.{statement}
+use Rattle.recovery.proofs.restart_after_part.Tie as tie
 
 raise-part-requires : tie.Need-raise-part-requires
 raise-part-requires c κs = search needs

@@ -1,12 +1,12 @@
 use mathlib.Core.Path.{refl}
-use Rattle.journal.proofs.Slots.{each-more, false-true}
+use Rattle.slots.proofs.Searching.{each-more, false-true}
 use borrow.Author.Needs.{needs}
 use native.Mathlib.Omega.{arith}
 use mathlib.Core.Path.{_≡_, sym, _∙_}
 use Prim.Native.Nat.{ℕ, _<_, _≤_, _-_}
-use Rattle.journal.specs.Area.{slotCount, lengthOf}
-use Rattle.journal.proofs.is_free_from.Statement.{statement}
-use Rattle.journal.proofs.is_free_from.Tie as tie
+use Rattle.slots.specs.Area.{slotCount, lengthOf}
+use Rattle.slots.proofs.is_free_from.Statement.{statement}
+use Rattle.slots.proofs.is_free_from.Tie as tie
 
 abbrev Inv-loop : tie.InvT-loop
 Inv-loop area slot k₀ k = (slot ≤ k) × (k ≤ slotCount) × ((j : ℕ) → j < k → slot ≤ j → lengthOf area j ≡ 0)

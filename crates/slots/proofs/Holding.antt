@@ -8,9 +8,9 @@ use native.Mathlib.Omega.{arith}
 use borrow.Author.Tests.{eq-eqb, ne-eqb, lt-ltb, ltb-true, ltb-false, eqb-true}
 use lib.Dec.{eqb, ltb}
 use lib.ListN.{length}
-use Rattle.journal.specs.Area.{areaSize, slotCount, takenLength, takenKind, lengthOf, kindOf, ceilingOf, free, taken, lengthRule, orderRule, kindRule, ceilingRule, every, wellFormed, firstFree, ceilingBefore, ceiling}
-use Rattle.journal.specs.Contents.{continues}
-use Rattle.journal.proofs.Slots.{false-true, and-left, and-right, and-false, or-right, every-true, every-each, first-most, first-is, first-below, first-at}
+use Rattle.slots.specs.Area.{areaSize, slotCount, takenLength, takenKind, lengthOf, kindOf, ceilingOf, free, taken, lengthRule, orderRule, kindRule, ceilingRule, every, wellFormed, firstFree, ceilingBefore, ceiling}
+use Rattle.slots.specs.Contents.{continues}
+use Rattle.slots.proofs.Searching.{false-true, and-left, and-right, and-false, or-right, every-true, every-each, first-most, first-is, first-below, first-at}
 
 pub record Holds (a : List ℕ) (n : ℕ) : Type 0 where
   pub size : length a ≡ areaSize

@@ -7,11 +7,11 @@ use native.Mathlib.Omega.{arith}
 use borrow.Author.Tests.{eq-eqb, ne-eqb}
 use lib.Dec.{ltb}
 use lib.ListN.{length}
-use Rattle.journal.specs.declared.Contents.the-variants.{Ceilings, Malformed}
-use Rattle.journal.specs.Area.{areaSize, slotCount, takenLength, takenKind, lengthOf, kindOf, ceilingOf, wellFormed, ceilingBefore, ceiling}
-use Rattle.journal.specs.Contents.{continues, contentsOf}
-use Rattle.journal.proofs.Slots.{false-true, not-true}
-use Rattle.journal.proofs.Holding.{formed, first-free, formed-holds, chain-holds, chain-stops}
+use Rattle.slots.specs.declared.Contents.the-variants.{Ceilings, Malformed}
+use Rattle.slots.specs.Area.{areaSize, slotCount, takenLength, takenKind, lengthOf, kindOf, ceilingOf, wellFormed, ceilingBefore, ceiling}
+use Rattle.slots.specs.Contents.{continues, contentsOf}
+use Rattle.slots.proofs.Searching.{false-true, not-true}
+use Rattle.slots.proofs.Holding.{formed, first-free, formed-holds, chain-holds, chain-stops}
 
 -- ---- whether a slot goes on
 

@@ -1,8 +1,8 @@
 use native.Mathlib.Omega.{arith}
-use Rattle.journal.proofs.Passing.{size-damaged, contents-held, contents-damaged}
+use Rattle.slots.proofs.Passing.{size-damaged, contents-held, contents-damaged}
 use borrow.Author.Needs.{needs}
-use Rattle.journal.proofs.read.Statement.{statement}
-use Rattle.journal.proofs.read.Tie as tie
+use Rattle.slots.proofs.read.Statement.{statement}
+use Rattle.slots.proofs.read.Tie as tie
 
 returns : tie.Need-returns
 returns c = size-damaged _ (c .if1 .taken)

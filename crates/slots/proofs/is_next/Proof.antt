@@ -1,7 +1,7 @@
-use Rattle.journal.proofs.Passing.{next-length, next-kind, next-first, next-above}
+use Rattle.slots.proofs.Passing.{next-length, next-kind, next-first, next-above}
 use borrow.Author.Needs.{needs}
-use Rattle.journal.proofs.is_next.Statement.{statement}
-use Rattle.journal.proofs.is_next.Tie as tie
+use Rattle.slots.proofs.is_next.Statement.{statement}
+use Rattle.slots.proofs.is_next.Tie as tie
 
 length-of-requires : tie.Need-length-of-requires
 length-of-requires c κs = search needs

@@ -8,10 +8,10 @@ use lib.ListN.{length, getD, set, take, drop, length-append}
 use lib.Seq.{sets, sets-eq, length-sets, length-take-le, take-append-le, getD-append-add, getD-set-same, getD-set-other}
 use Rattle.fields.specs.Fields.{numberBy, fieldAt, bytesOf}
 use Rattle.fields.proofs.Laws.{field-same, number-bytes}
+use Rattle.slots.specs.Area.{lengthOf, kindOf, ceilingOf, takenLength, takenKind}
 use Rattle.journal.specs.declared.Store.{Store}
-use Rattle.journal.specs.Area.{lengthOf, kindOf, ceilingOf, takenLength, takenKind}
 use Rattle.journal.specs.Stores.{store, upward, stores, storeCount, made}
 use Rattle.journal.proofs.Bytes.{made-more}
 
 -- ---- places
 

@@ -9,20 +9,20 @@ use borrow.Author.Tests.{eqb-false, leb-false, ltb-true, ltb-false}
 use lib.Dec.{eqb, leb, ltb}
 use lib.ListN.{length, take}
 use lib.Seq.{take-all}
+use Rattle.slots.specs.Area.{slotCount, takenLength, takenKind, lengthOf, kindOf, ceilingOf, wellFormed, firstFree, ceilingBefore, ceiling}
+use Rattle.slots.proofs.Searching.{false-true, each-more}
+use Rattle.slots.proofs.Passing.{before-more}
+use Rattle.slots.proofs.Holding.{Holds, formed, ceiling-is, formed-holds}
 use Rattle.journal.specs.declared.Started.{Started}
 use Rattle.journal.specs.declared.Started.the-variants as start
 use Rattle.journal.specs.declared.Raised.{Raised}
 use Rattle.journal.specs.declared.Raised.the-variants as rise
-use Rattle.journal.specs.Area.{slotCount, takenLength, takenKind, lengthOf, kindOf, ceilingOf, wellFormed, firstFree, ceilingBefore, ceiling}
 use Rattle.journal.specs.Stores.{stores, storeCount, made}
 use Rattle.journal.specs.Answers.{counter, restartOf, refusesRaise, left, Left, raiseOf, raisePartOf}
-use Rattle.journal.specs.Cuts.{Finds, foundAfter, SurvivesCuts}
-use Rattle.journal.proofs.Slots.{false-true, each-more}
 use Rattle.journal.proofs.Bytes.{length-made, eleven}
-use Rattle.journal.proofs.Passing.{before-more}
 use Rattle.journal.proofs.Answering.{part-whole}
-use Rattle.journal.proofs.Holding.{Holds, formed, ceiling-is, formed-holds}
-use Rattle.journal.proofs.Storing.{first-apart, whole-apart, new-kind, new-ceiling, new-length}
+use Rattle.recovery.specs.Cuts.{Finds, foundAfter, SurvivesCuts}
+use Rattle.recovery.proofs.Storing.{first-apart, whole-apart, new-kind, new-ceiling, new-length}
 
 -- the ceiling before slot n, in areas that have the same ceilings below it
 before-same : (a b : List ℕ) (n : ℕ) → ((k : ℕ) → k < n → ceilingOf b k ≡ ceilingOf a k) → ceilingBefore b n ≡ ceilingBefore a n

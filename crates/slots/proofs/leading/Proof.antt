@@ -3,12 +3,12 @@ use native.Mathlib.Omega.{arith}
 use mathlib.Core.Path.{_≡_, sym, _∙_}
 use Prim.Native.Nat.{ℕ, _<_, _≤_, _-_}
 use mathlib.Core.Bool.{true}
-use Rattle.journal.specs.Contents.{continues}
-use Rattle.journal.specs.Area.{slotCount, ceilingBefore}
-use Rattle.journal.proofs.Slots.{each-more}
-use Rattle.journal.proofs.Passing.{before-more, before-none}
-use Rattle.journal.proofs.leading.Statement.{statement}
-use Rattle.journal.proofs.leading.Tie as tie
+use Rattle.slots.specs.Contents.{continues}
+use Rattle.slots.specs.Area.{slotCount, ceilingBefore}
+use Rattle.slots.proofs.Searching.{each-more}
+use Rattle.slots.proofs.Passing.{before-more, before-none}
+use Rattle.slots.proofs.leading.Statement.{statement}
+use Rattle.slots.proofs.leading.Tie as tie
 
 abbrev Inv-loop : tie.InvT-loop
 Inv-loop area count₀ ceiling₀ count ceiling =

@@ -1,8 +1,8 @@
 use native.Mathlib.Omega.{arith}
-use Rattle.journal.proofs.Raising.{raise-found}
+use Rattle.recovery.proofs.Raising.{raise-found}
 use borrow.Author.Needs.{needs}
-use Rattle.journal.proofs.restart_after_raise.Statement.{statement}
-use Rattle.journal.proofs.restart_after_raise.Tie as tie
+use Rattle.recovery.proofs.restart_after_raise.Statement.{statement}
+use Rattle.recovery.proofs.restart_after_raise.Tie as tie
 
 raise-requires : tie.Need-raise-requires
 raise-requires c κs = search needs

@@ -3,9 +3,9 @@ use Prim.Native.Nat.{ℕ}
 use mathlib.Core.Bool.{Bool, cond, _&&_, _||_}
 use mathlib.Core.List.{List}
 use lib.Dec.{eqb, ltb}
-use Rattle.journal.specs.declared.Contents.{Contents}
-use Rattle.journal.specs.declared.Contents.the-variants.{Ceilings, Malformed}
-use Rattle.journal.specs.Area.{kindOf, ceilingOf, takenKind, taken, wellFormed, firstFree, ceilingBefore, ceiling}
+use Rattle.slots.specs.declared.Contents.{Contents}
+use Rattle.slots.specs.declared.Contents.the-variants.{Ceilings, Malformed}
+use Rattle.slots.specs.Area.{kindOf, ceilingOf, takenKind, taken, wellFormed, firstFree, ceilingBefore, ceiling}
 
 -- how many slots are taken and the last ceiling, of a well-formed area
 unfoldable pub contentsOf : List ℕ → Contents

@@ -4,12 +4,12 @@ use mathlib.Core.Bool.{cond}
 use mathlib.Core.List.{List}
 use Prim.Native.Nat.{ℕ}
 use lib.Dec.{ltb}
+use Rattle.slots.specs.Area.{ceiling}
 use Rattle.journal.specs.declared.Started.the-variants as start
 use Rattle.journal.specs.declared.Raised.{Raised}
 use Rattle.journal.specs.declared.Raised.the-variants as rise
-use Rattle.journal.specs.Area.{ceiling}
 use Rattle.journal.specs.Stores.{storeCount}
 use Rattle.journal.specs.Answers.{counter, restartOf, raiseOf, raisePartOf}
 
 -- a restart is accepted on an area, and numbers begin at this ceiling
 abbrev pub Finds : List ℕ → ℕ → Type 0
