@@ -50,9 +50,9 @@ trapOf (StringOutput t i) = trap true false (portSize t) (cut t) i
 trapOf (RepInput i) = trap false true 0 0 i
 trapOf (RepOutput t i) = trap true true (portSize t) (cut t) i
 
--- What entry at a boundary records, halted or not, inside the mode or outside it. Current IP is the address that the boundary gives, but EIP on a halted machine. Next IP is EIP, but for a
--- REP form it is current IP: 01 has EIP for every boundary, and 02, request 3, mends that (000, section 3.3.1). A halted machine meets no REP
--- form: that is malformed.
+-- What entry at a boundary records, of a machine that is halted or not, and inside the mode or outside it. Current IP is the address that the
+-- boundary gives, but EIP on a halted machine. Next IP is EIP, but for a REP form it is current IP: 01 has EIP for every boundary, and 02,
+-- request 3, mends that (000, section 3.3.1). A halted machine meets no REP form: that is malformed.
 abbrev pub boundarySaved : Registers → Bool → Bool → ℕ → Interruption → Saved
 boundarySaved r halted inside current i =
     let ip = cond halted (r .eip) current in

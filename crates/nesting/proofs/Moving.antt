@@ -1,13 +1,13 @@
 -- What entry and RSM alter of the settings. Assumes nothing.
-use mathlib.Core.Path.{_≡_, refl, ap, _∙_}
+use mathlib.Core.Path.{_≡_, refl}
 use mathlib.Core.Bool.{Bool, true, false, and-false}
 use Prim.Native.Nat.{ℕ, _+_, _*_, _/_, _%_, _≤_}
 use native.Mathlib.Omega.{arith}
 use lib.Dec.{eqb}
-use borrow.Author.Tests.{eqb-false, eq-eqb, ne-eqb}
+use borrow.Author.Tests.{eqb-false, ne-eqb}
 use Rattle.settings.specs.declared.Settings.{Settings}
 use Rattle.settings.specs.Settings.{isMii, byteOf, withByte}
-use Rattle.nesting.specs.Nesting.{smmMode, withN, enhanced, enteredSettings, resumedSettings}
+use Rattle.nesting.specs.Nesting.{withN, enhanced, enteredSettings, resumedSettings}
 use Rattle.nesting.specs.Moving.{OnlyN, OnlyNDetermines, EnhancedAsked, OnlyNMoves, NothingMoves, LastMoves}
 
 pub only-n-determines : OnlyNDetermines

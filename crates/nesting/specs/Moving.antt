@@ -1,5 +1,5 @@
 -- What entry and RSM alter of the settings (02, request 7): N and nothing else, and that only where service nests.
-use Prim.Native.Nat.{ℕ, _/_, _%_, _<_, _^_}
+use Prim.Native.Nat.{ℕ, _/_, _%_}
 use mathlib.Core.Path.{_≡_}
 use mathlib.Core.Bool.{true, false}
 use Rattle.settings.specs.declared.Edition.the-variants.{Cx486, Mii}
