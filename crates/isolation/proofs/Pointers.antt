@@ -49,7 +49,7 @@ pub at-one : (m : Machine) {smi current : ℕ} {i : Interruption} (by : Entering
 at-one m (at-boundary on inner asked) = refl
 
 -- each word that it writes is found
-word-back : (m : Machine) (x : Memories) (smi current : ℕ) (i : Interruption) → MachineFits m → StepFits (Boundary smi current i)
+pub word-back : (m : Machine) (x : Memories) (smi current : ℕ) (i : Interruption) → MachineFits m → StepFits (Boundary smi current i)
     → answerTo m x (Boundary smi current i) ≡ 11 → (v : Word)
     → wordIn (stepped m x (Boundary smi current i) .memory .management) (headerPlace (settingsOf m)) v ≡ contents (savedAtBoundary m current i) v
 unfolding entry

@@ -5,7 +5,7 @@ use Prim.Native.Nat.{ℕ, _+_, _*_, _^_, _<_}
 use native.Mathlib.Omega.{arith}
 use lib.Dec.{eqb}
 use lib.Seq.{length-sets}
-use borrow.Author.Tests.{not-true}
+use borrow.Author.Tests.{not-true, eq-eqb, ne-eqb}
 use Rattle.memory.specs.Memory.{Memories, allThere}
 use Rattle.steps.specs.declared.Transfer.{Transfer}
 use Rattle.steps.specs.declared.Interruption.{Interruption}
@@ -31,10 +31,10 @@ use Rattle.opcodes.specs.Decode.{operationOf}
 use Rattle.machine.specs.declared.Machine.{Machine}
 use Rattle.machine.specs.Outcomes.{Outcome, ends}
 use Rattle.machine.specs.Machines.{settingsOf, editionOf}
-use Rattle.machine.specs.Service.{enteredMachine, entry, taken, boundaryStep, resume}
+use Rattle.machine.specs.Service.{enteredMachine, entry, taken, passed, boundaryStep, resume}
 use Rattle.machine.specs.Steps.{permitted, valid, operationOn, operated, withOperand, opcodeStep, performed, decided, stepped}
 use Rattle.isolation.specs.Widths.{MachineFits}
-use Rattle.isolation.specs.Service.{answerTo, Entering, recorded, latchAfter, EntersWhereDue, EntersAsStated, ResumesWhereDue, ResumesAsStated, Resume, ResumesAsEntered}
+use Rattle.isolation.specs.Service.{answerTo, Entering, recorded, latchAfter, EntersWhereDue, EntersAsStated, Passing, PassesAsStated, ResumesWhereDue, ResumesAsStated, Resume, ResumesAsEntered}
 use Rattle.isolation.specs.Service.Entering.{at-boundary, by-smint}
 use Rattle.isolation.specs.Service.Resuming.{by-rsm}
 use Rattle.isolation.proofs.Cases.{either, unlike}
@@ -90,6 +90,23 @@ enters-as-stated m x s h =
       main = refl;
       management = only-header (x .management) (headerPlace (settingsOf m)) (recorded m (e .by)) (room m x (e .able));
     })
+
+-- ---- what a boundary does that doesn't enter
+
+pub passes-as-stated : PassesAsStated
+unfolding performed boundaryStep entry passed
+passes-as-stated m x smi current i may not = rw (performs m x (Boundary smi current i) may) (go (taken m (eqb smi 1)) refl)
+  where
+    go : (b : Bool) → taken m (eqb smi 1) ≡ b → Passing m x smi (boundaryStep m x (eqb smi 1) current i)
+    go true e = absurd (not (rw (performs m x (Boundary smi current i) may, e)))
+    go false e =
+        rw e
+        (record {
+          latched = λ h k. rw (eq-eqb smi 1 h, k) (refl, refl);
+          ignored = λ h k. rw (eq-eqb smi 1 h, k) (refl, refl);
+          nothing = λ h. rw (ne-eqb smi 1 h) (refl, refl);
+          memory = refl;
+        })
 
 -- ---- what RSM loads
 

@@ -1,4 +1,4 @@
--- Demand 2: which steps enter, what entry writes and loads, which steps resume and what they load, and what RSM right after entry loads back.
+-- Demand 2: which steps enter, what entry writes and loads, what a boundary does that doesn't enter, which steps resume and what they load, and what RSM right after entry loads back.
 -- "Entered" is answer 11, "resumed" 12. All of it is said of any machine: its edition decides where the header lies, whether it fits, and which
 -- byte is SMINT (02, request 1), and with SMM_MODE whether service nests (02, request 7). At the end, where RSM goes after a REP form (02,
 -- request 3).
@@ -27,7 +27,7 @@ use Rattle.header.specs.Header.Word.{CurrentIp, NextIp}
 use Rattle.header.specs.Entry.{entryCr0, entryCs}
 use Rattle.machine.specs.declared.Machine.{Machine}
 use Rattle.machine.specs.Outcomes.{Outcome}
-use Rattle.machine.specs.Machines.{settingsOf, editionOf, withSettings}
+use Rattle.machine.specs.Machines.{settingsOf, editionOf, withLatched, withSettings}
 use Rattle.machine.specs.Service.{savedAtBoundary, savedBySmint}
 use Rattle.machine.specs.Steps.{valid, stepped}
 use Rattle.isolation.specs.Widths.{MachineFits}
@@ -92,6 +92,20 @@ pub record Entry (m : Machine) (x : Memories) (s : Step) (o : Outcome) : Type 0 
 abbrev pub EntersAsStated : Type 0
 EntersAsStated = (m : Machine) (x : Memories) (s : Step) → answerTo m x s ≡ 11 → Entry m x s (stepped m x s)
 
+-- What a boundary does that isn't refused and doesn't enter: inside the mode an asserted SMI is latched, outside it is ignored, and nothing else
+-- moves. m and x are before it, smi says whether an SMI is asserted, and o is after it.
+pub record Passing (m : Machine) (x : Memories) (smi : ℕ) (o : Outcome) : Type 0 where
+  pub latched : smi ≡ 1 → m .inside ≡ true → (numberOf (o .stepped .answer) ≡ 10) × (o .stepped .machine ≡ withLatched m true)
+  pub ignored : smi ≡ 1 → m .inside ≡ false → (numberOf (o .stepped .answer) ≡ 9) × (o .stepped .machine ≡ m)
+  pub nothing : (smi ≡ 1 → ⊥) → (numberOf (o .stepped .answer) ≡ 8) × (o .stepped .machine ≡ m)
+  pub memory : o .memory ≡ x
+
+abbrev pub PassesAsStated : Type 0
+PassesAsStated =
+    (m : Machine) (x : Memories) (smi current : ℕ) (i : Interruption)
+    → let s = Boundary smi current i in
+    firstRefusal (m .halted) x s ≡ Allowed → (answerTo m x s ≡ 11 → ⊥) → Passing m x smi (stepped m x s)
+
 -- the one way to resume: a valid RSM
 pub data Resuming (m : Machine) : Step → Type 0 where
   by-rsm : {op modrm a next : ℕ} → operationOf (editionOf m) op modrm ≡ Rsm → valid m Rsm ≡ true → Resuming m (Opcode op modrm a next)
@@ -101,8 +115,8 @@ abbrev pub ResumesWhereDue : Type 0
 ResumesWhereDue =
     (m : Machine) (x : Memories) (s : Step) → firstRefusal (m .halted) x s ≡ Allowed → Resuming m s → answerTo m x s ≡ 12
 
--- It loads the registers from the header that management memory holds. It leaves the mode; but where service nests, it stays inside if the
--- header says so, and sets N. m and x are before the step s, and o is after it.
+-- It loads the registers from the header that management memory holds, and leaves the mode. Where service nests it sets N, and it stays inside
+-- if the header says that entry came from there. m and x are before the step s, and o is after it.
 pub record Resumption (m : Machine) (x : Memories) (s : Step) (o : Outcome) : Type 0 where
   pub by : Resuming m s
   pub registers : o .stepped .machine .registers ≡ resumed (x .management) (headerPlace (settingsOf m))

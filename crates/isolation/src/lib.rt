@@ -2,7 +2,7 @@
 use machine::Machine;
 ghost use Rattle.isolation.specs.Widths.{MachineFits};
 ghost use Rattle.isolation.specs.Refusals.{RefusedAsCalledFor, RefusalChangesNothing};
-ghost use Rattle.isolation.specs.Service.{EntersWhereDue, EntersAsStated, ResumesWhereDue, ResumesAsStated, ResumesAsEntered, PointersAsStated};
+ghost use Rattle.isolation.specs.Service.{EntersWhereDue, EntersAsStated, PassesAsStated, ResumesWhereDue, ResumesAsStated, ResumesAsEntered, PointersAsStated};
 ghost use Rattle.isolation.specs.Isolation.{Isolated, SameAnswers};
 ghost use Rattle.isolation.specs.Tightness.{StartAsked, NoResetAsked, UpToEntryAsked, LastIsLast, ThroughEntryAsked, WholeList, HeaderDetermines, EntryDetermines, ResumptionDetermines, ResumeDetermines, PointersDetermine, AgreementDetermines};
 ghost use Rattle.isolation.specs.Editions.{EditionStays, LockHolds, NoService, SameWithoutNews, CommonAsked};
@@ -18,6 +18,7 @@ fn demand_1()
 fn demand_2()
     ensures due { λ r. ⌜ EntersWhereDue ⌝ }
     ensures enters { λ r. ⌜ EntersAsStated ⌝ }
+    ensures passes { λ r. ⌜ PassesAsStated ⌝ }
     ensures back { λ r. ⌜ ResumesWhereDue ⌝ }
     ensures resumes { λ r. ⌜ ResumesAsStated ⌝ }
     ensures returns { λ r. ⌜ ResumesAsEntered ⌝ }

@@ -227,6 +227,7 @@ pub never-out : NeverOut
 never-out m x s modrm a next modrm′ a′ next′ f w inside level h =
     let r = first-back m x s f w h inside level modrm a next in
     let e = resume-determines m s (way m x s f w h inside level) (stepped m x s) _ r in (
+      r .answer,
       r .inside ∙ inside,
       rw e (stays m x s f w h inside level modrm a next modrm′ a′ next′),
     )

@@ -13,12 +13,13 @@ use Rattle.steps.specs.Widths.{StepFits}
 use Rattle.refusals.specs.Refusals.{malformedOn, programWhileHalted}
 use Rattle.settings.specs.declared.Edition.{Edition}
 use Rattle.settings.specs.declared.Edition.the-variants.{Cx486, Mii}
-use Rattle.settings.specs.Settings.{smhr, headerEnd, headerFits, headerPlace, enabled, opcodesAllowed, withSmhr}
+use Rattle.settings.specs.Settings.{smhr, headerEnd, headerFits, headerPlace, enabled, opcodesAllowed, withByte, withSmhr}
 use Rattle.settings_laws.proofs.Place.{smhr-loaded}
 use Rattle.nesting.specs.Nesting.{enhanced, nestable}
 use Rattle.header.specs.declared.Registers.{Registers}
 use Rattle.header.specs.declared.Saved.{Saved}
 use Rattle.header.specs.Header.{headerLength}
+use Rattle.header.specs.Header.Word.{Flags}
 use Rattle.opcodes.specs.Decode.{operationOf}
 use Rattle.machine.specs.declared.Machine.{Machine}
 use Rattle.machine.specs.Machines.{settingsOf}
@@ -26,16 +27,16 @@ use Rattle.machine.specs.Steps.{permitted, valid, stepped}
 use Rattle.config.specs.declared.Config.{Config}
 use Rattle.isolation.specs.Widths.{MachineFits}
 use Rattle.isolation.proofs.Nesting.{entered-kept}
-use Rattle.isolation.specs.Service.{answerTo, Entering, recorded}
+use Rattle.isolation.specs.Service.{answerTo, Entering, recorded, Resuming}
 use Rattle.isolation.specs.Service.Entering.{at-boundary}
 use Rattle.isolation.specs.Service.Resuming.{by-rsm}
 use Rattle.isolation.specs.Examples.{locked, filled, rsm}
 use Rattle.isolation.proofs.Service.{enters-where-due, enters-as-stated, resumes-where-due}
-use Rattle.isolation.proofs.Pointers.{at-one}
+use Rattle.isolation.proofs.Pointers.{at-one, word-back}
 use Rattle.isolation.proofs.Examples.{allowed, boundary-allowed, full, locked-fits, sample-fits, due-at-boundary, entry-example}
 use Rattle.levels.specs.Levels.{placeOf, headerOf, Stands, Moved}
 use Rattle.levels.proofs.Levels.{entry-header, origin-recorded, overwritten, never-out, both-stand, both-return, nothing-nests}
-use Rattle.levels.specs.Nested.{handler, met, afterOuter, afterInner, NestedExample, MovedExample, LevelsExample}
+use Rattle.levels.specs.Nested.{handler, plain, met, afterOuter, afterInner, NestedExample, MovedExample, LevelsExample}
 
 met-fits : StepFits met
 met-fits = (omega arith, omega arith, tt)
@@ -52,6 +53,10 @@ module _ (g : List ℕ) (long : length g ≡ 65536) where
   enters-there : (m : Machine) → m .halted ≡ false → Entering m met → answerTo m x met ≡ 11
   unfolding malformedOn
   enters-there m awake by = enters-where-due m x met (rw awake (boundary-allowed g long false None refl)) by
+
+  resumes-there : (m : Machine) → m .halted ≡ false → Resuming m rsm → answerTo m x rsm ≡ 12
+  unfolding malformedOn programWhileHalted
+  resumes-there m awake by = resumes-where-due m x rsm (rw awake (allowed g long false rsm refl refl)) by
 
   entered-long : (m : Machine) → answerTo m x met ≡ 11 → length (stepped m x met .memory .management) ≡ 65536
   entered-long m h = enters-as-stated m x met h .management .same ∙ long
@@ -131,12 +136,16 @@ module _ (shr : ℕ) (e : headerFits (settingsOf (handler shr)) ≡ true) where
   inner-enters : answerTo (handler shr) afterOuter met ≡ 11
   inner-enters = enters-there (afterOuter .management) outer-long (handler shr) refl (due shr e)
 
+  inner-long : length (afterInner shr .management) ≡ 65536
+  inner-long = entered-long (afterOuter .management) outer-long (handler shr) inner-enters
+
   back-outside : answerTo (handler 0x6a001) (afterInner shr) rsm ≡ 12
-  unfolding malformedOn programWhileHalted operationOf valid permitted opcodesAllowed usable regionOf sizeOf withSmhr
-  back-outside =
-      let long = entered-long (afterOuter .management) outer-long (handler shr) inner-enters in
-      resumes-where-due (handler 0x6a001) (afterInner shr) rsm (allowed (afterInner shr .management) long false rsm refl refl)
-      (by-rsm refl (rw fits-same))
+  unfolding operationOf valid permitted opcodesAllowed usable regionOf sizeOf withSmhr
+  back-outside = resumes-there (afterInner shr .management) inner-long (handler 0x6a001) refl (by-rsm refl (rw fits-same))
+
+  plain-back : answerTo plain (afterInner shr) rsm ≡ 12
+  unfolding operationOf valid permitted opcodesAllowed headerFits headerEnd usable regionOf sizeOf withSmhr withByte
+  plain-back = resumes-there (afterInner shr .management) inner-long plain refl (by-rsm refl refl)
 
   outer-stands : Stands (afterOuter .management) (placeOf (locked Mii)) (headerOf (locked Mii) outer-due)
   outer-stands = entry-header (locked Mii) (filled 0) met outer-enters outer-due .header
@@ -170,6 +179,10 @@ levels-example = record {
   up = moved-example 0x6a031 fits-up (moved 0x6a031 (smhr-loaded _ 0x6a031 (omega arith)) (inr (omega arith)));
 }
 
+plain-mode : enhanced (settingsOf plain) ≡ false
+unfolding enhanced withByte withSmhr
+plain-mode = refl
+
 pub nested-example : NestedExample
 unfolding malformedOn enhanced
 nested-example =
@@ -180,14 +193,16 @@ nested-example =
     let never = never-out m afterOuter met 0 0 0 0 0 0 (fits 0x6a001) met-fits refl refl inner in
     record {
       entry = e;
+      flags = word-back m (filled 0) 1 0x1000 None (fits 0x6a001) met-fits (e .entered) Flags;
       origin = origin-recorded m (filled 0) met (fits 0x6a001) met-fits (e .entered);
       outer = outer-enters;
       inner = inner;
       by = by;
       over = overwritten (locked Mii) m (filled 0) afterOuter met met outer-enters inner refl place-back by;
-      first = never .0;
-      again = never .1;
+      first = never .1;
+      again = never .2;
       none =
           nothing-nests (locked Cx486) (filled 0) met refl .0
           (enters-there (replicate 65536 0) (full 0) (locked Cx486) refl (due-at-boundary Cx486 false None)) .1;
+      leaves = nothing-nests plain (afterInner 0x6a001) rsm plain-mode .1 (plain-back 0x6a001 fits-same);
     }

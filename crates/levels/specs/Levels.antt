@@ -10,6 +10,7 @@ use lib.ListN.{getD}
 use Rattle.memory.specs.Memory.{Memories}
 use Rattle.steps.specs.declared.Step.{Step}
 use Rattle.steps.specs.declared.Step.the-variants.{Opcode}
+use Rattle.steps.specs.Answers.{numberOf}
 use Rattle.steps.specs.Widths.{StepFits}
 use Rattle.settings.specs.declared.Edition.the-variants.{Mii}
 use Rattle.settings.specs.Settings.{regionIn, smhr, headerPlace}
@@ -65,15 +66,15 @@ Overwritten =
     → y .management ≡ stepped m x s .memory .management → placeOf n ≡ placeOf m
     → (by : Entering n t) → OnlyHeader (x .management) (stepped n y t .memory .management) (placeOf m) (headerOf n by)
 
--- So a handler that doesn't move SMHR never gets out: after an entry from inside, at level 0, the first RSM stays inside, and every further one
--- leads to where the first has led.
+-- So a handler that doesn't move SMHR doesn't get out by RSM: after an entry from inside, at level 0, the first RSM stays inside, and every RSM
+-- right after it leads to where the first has led.
 abbrev pub NeverOut : Type 0
 NeverOut =
     (m : Machine) (x : Memories) (s : Step) (modrm a next modrm′ a′ next′ : ℕ) → MachineFits m → StepFits s
     → m .inside ≡ true → levelNumber (m .registers .level) ≡ 0 → answerTo m x s ≡ 11
     → let e = stepped m x s in
     let o = stepped (e .stepped .machine) (e .memory) (Opcode 0xaa modrm a next) in
-    (o .stepped .machine .inside ≡ true) × (stepped (o .stepped .machine) (o .memory) (Opcode 0xaa modrm′ a′ next′) ≡ o)
+    (numberOf (o .stepped .answer) ≡ 12) × (o .stepped .machine .inside ≡ true) × (stepped (o .stepped .machine) (o .memory) (Opcode 0xaa modrm′ a′ next′) ≡ o)
 
 -- ---- two headers with SMHR moved between
 

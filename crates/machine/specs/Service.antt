@@ -55,8 +55,8 @@ passed m asserted = cond asserted (cond (m .inside) (gives (withLatched m true) 
 unfoldable pub boundaryStep : Machine → Memories → Bool → ℕ → Interruption → Outcome
 boundaryStep m x asserted current i = cond (taken m asserted) (entryAtBoundary m x current i) (ends (passed m asserted) x)
 
--- RSM loads the registers from the header, and leaves the machine awake. It leaves the mode, but where service nests it stays inside if
--- the header says that entry came from there, and sets N.
+-- RSM loads the registers from the header, and leaves the mode with the machine awake. Where service nests it sets N, and it stays inside if the
+-- header says that entry came from there.
 unfoldable pub resume : Machine → List ℕ → Stepped
 resume m g =
     let at = headerPlace (settingsOf m) in

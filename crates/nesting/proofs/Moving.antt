@@ -1,14 +1,15 @@
 -- What entry and RSM alter of the settings. Assumes nothing.
-use mathlib.Core.Path.{_≡_, refl}
-use mathlib.Core.Bool.{Bool, true, false, and-false}
-use Prim.Native.Nat.{ℕ, _+_, _*_, _/_, _%_, _≤_}
+use mathlib.Core.Path.{_≡_, refl, sym, _∙_}
+use mathlib.Core.Bool.{Bool, true, false, _&&_}
+use Prim.Native.Nat.{ℕ, _+_, _*_, _/_, _%_, _≤_, _<_}
 use native.Mathlib.Omega.{arith}
 use lib.Dec.{eqb}
-use borrow.Author.Tests.{eqb-false, ne-eqb}
+use borrow.Author.Tests.{eqb-true, eqb-false, ne-eqb}
+use Rattle.fields.specs.Fields.{bit}
 use Rattle.settings.specs.declared.Settings.{Settings}
-use Rattle.settings.specs.Settings.{isMii, byteOf, withByte}
-use Rattle.nesting.specs.Nesting.{withN, enhanced, enteredSettings, resumedSettings}
-use Rattle.nesting.specs.Moving.{OnlyN, OnlyNDetermines, EnhancedAsked, OnlyNMoves, NothingMoves, LastMoves}
+use Rattle.settings.specs.Settings.{byteOf, withByte}
+use Rattle.nesting.specs.Nesting.{smmMode, bitN, nestable, withN, enhanced, enteredSettings, resumedSettings}
+use Rattle.nesting.specs.Moving.{OnlyN, OnlyNDetermines, BitsAsked, OnlyNMoves, NothingMoves, LastMoves}
 
 pub only-n-determines : OnlyNDetermines
 unfolding withN withByte byteOf
@@ -32,12 +33,26 @@ only-n-determines s t n k =
     whole : (c d n : ℕ) → c % 64 ≡ d % 64 → c / 64 % 2 ≡ n → c / 128 ≡ d / 128 → c ≡ d / 128 * 128 + 64 * n + d % 64
     whole c d n low bit high = omega arith
 
-pub enhanced-asked : EnhancedAsked
-unfolding enhanced
-enhanced-asked s = (
-  λ e f. rw (e, f),
-  λ e. rw e,
-  λ e. rw e (and-false (isMii (s .edition))),
+-- a bit of a number, as a truth value and back
+bit-of : (c : ℕ) → c < 2 → bit (eqb c 1) ≡ c
+bit-of c h = go (eqb c 1) refl
+  where
+    go : (b : Bool) → eqb c 1 ≡ b → bit b ≡ c
+    go true e = sym (eqb-true c 1 e)
+    go false e = let n = eqb-false c 1 e in omega arith
+
+both-bits : (p q : Bool) → bit (p && q) ≡ bit p * bit q
+both-bits true q = omega arith
+both-bits false q = omega arith
+
+pub bits-asked : BitsAsked
+unfolding enhanced nestable
+bits-asked s = (
+  λ e.
+      let mode = bit-of (s .ccr6 % 2) (omega arith) in
+      let n = bit-of (s .ccr6 / 64 % 2) (omega arith) in
+      rw e (mode, both-bits (smmMode s) (bitN s) ∙ rw (mode, n)),
+  λ e. rw e (refl, refl),
 )
 
 -- another N leaves the rest

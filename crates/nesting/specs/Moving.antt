@@ -1,11 +1,12 @@
 -- What entry and RSM alter of the settings (02, request 7): N and nothing else, and that only where service nests.
-use Prim.Native.Nat.{ℕ, _/_, _%_}
+use Prim.Native.Nat.{ℕ, _*_, _/_, _%_}
 use mathlib.Core.Path.{_≡_}
 use mathlib.Core.Bool.{true, false}
+use Rattle.fields.specs.Fields.{bit}
 use Rattle.settings.specs.declared.Edition.the-variants.{Cx486, Mii}
 use Rattle.settings.specs.declared.Settings.{Settings}
 use Rattle.settings.specs.Settings.{byteOf}
-use Rattle.nesting.specs.Nesting.{withN, enhanced, enteredSettings, resumedSettings}
+use Rattle.nesting.specs.Nesting.{withN, enhanced, nestable, enteredSettings, resumedSettings}
 
 -- settings t that are s with N at n: the edition, the bytes at all other indexes, and the other bits of CCR6 are as they were
 pub record OnlyN (s t : Settings) (n : ℕ) : Type 0 where
@@ -19,15 +20,14 @@ pub record OnlyN (s t : Settings) (n : ℕ) : Type 0 where
 abbrev pub OnlyNDetermines : Type 0
 OnlyNDetermines = (s t : Settings) (n : ℕ) → OnlyN s t n → t ≡ withN s n
 
--- service nests in the later edition with CCR6 bit 0 at 1, and nowhere else
-abbrev pub EnhancedAsked : Type 0
-EnhancedAsked =
+-- in the later edition service nests by CCR6 bit 0, and a handler may be interrupted by that and bit 6; in the 486 edition neither
+abbrev pub BitsAsked : Type 0
+BitsAsked =
     (s : Settings)
-    → (s .edition ≡ Mii → s .ccr6 % 2 ≡ 1 → enhanced s ≡ true)
-    × (s .edition ≡ Cx486 → enhanced s ≡ false)
-    × (s .ccr6 % 2 ≡ 0 → enhanced s ≡ false)
+    → (s .edition ≡ Mii → (bit (enhanced s) ≡ s .ccr6 % 2) × (bit (nestable s) ≡ s .ccr6 % 2 * (s .ccr6 / 64 % 2)))
+    × (s .edition ≡ Cx486 → (enhanced s ≡ false) × (nestable s ≡ false))
 
--- there entry leaves N 0 and RSM leaves it 1
+-- where service nests, entry leaves N 0 and RSM leaves it 1
 abbrev pub OnlyNMoves : Type 0
 OnlyNMoves = (s : Settings) → enhanced s ≡ true → OnlyN s (enteredSettings s) 0 × OnlyN s (resumedSettings s) 1
 
