@@ -34,12 +34,12 @@ use Rattle.machine.specs.Steps.{permitted, valid, haltStep, performed, stepped}
 use Rattle.isolation.specs.Widths.{SegmentFits, MachineFits}
 use Rattle.runs.specs.Runs.{run, answersOf}
 use Rattle.isolation.specs.Refusals.{calledFor}
-use Rattle.isolation.specs.Service.{Entering, PointersBy}
+use Rattle.isolation.specs.Service.{Entering, Passing, PointersBy}
 use Rattle.isolation.specs.Service.Entering.{at-boundary, by-smint}
 use Rattle.isolation.specs.Isolation.{NoReset, UpToEntry, lastNumber}
-use Rattle.isolation.specs.Examples.{sampleSettings, sample, locked, underSmac, filled, stepsToEntry, rsm, IsolationExamples, EntryExample, SmintExamples, BoundaryExample, byteOut, BoundaryExamples, RefusalExamples, LaterExamples, AlikeExample}
+use Rattle.isolation.specs.Examples.{sampleSettings, sample, locked, underSmac, filled, stepsToEntry, rsm, IsolationExamples, EntryExample, SmintExamples, BoundaryExample, byteOut, BoundaryExamples, disabled, PassingExamples, RefusalExamples, LaterExamples, AlikeExample}
 use Rattle.isolation.proofs.Cases.{unlike}
-use Rattle.isolation.proofs.Service.{performs, answered-allowed, enters-where-due, resumes-as-stated, resumes-as-entered}
+use Rattle.isolation.proofs.Service.{performs, answered-allowed, enters-where-due, enters-as-stated, passes-as-stated, resumes-as-stated, resumes-as-entered}
 use Rattle.isolation.proofs.Pointers.{pointers-as-stated}
 use Rattle.isolation.proofs.Tightness.{no-reset-asked, up-to-entry-asked}
 
@@ -254,6 +254,31 @@ pub smint-examples : SmintExamples
 smint-examples e =
     entry-example (underSmac e) (smint e) (sample-fits e 0x06 0x01 (omega arith) (omega arith)) (smint-fits e)
     (smint-allowed (replicate 65536 0) (full 0) e) (due-by-smint e)
+
+not-program : (smi : ℕ) → programWhileHalted false (Boundary smi 0x1000 None) ≡ false
+unfolding programWhileHalted
+not-program smi = refl
+
+-- with USE_SMI 0 no boundary enters
+none-enters : (e : Edition) (inside : Bool) (smi : ℕ) → Entering (disabled e inside) (Boundary smi 0x1000 None) → ⊥
+unfolding enabled
+none-enters e inside smi (at-boundary on may asked) = unlike on refl
+
+pub passing-examples : PassingExamples
+unfolding malformedOn
+passing-examples e =
+    let pass : (inside : Bool) (smi : ℕ) → malformedOn false (Boundary smi 0x1000 None) ≡ false
+    → Passing (disabled e inside) (filled 0) smi (stepped (disabled e inside) (filled 0) (Boundary smi 0x1000 None))
+    = λ inside smi formed.
+    let m = disabled e inside in
+    let s = Boundary smi 0x1000 None in
+    passes-as-stated m (filled 0) smi 0x1000 None (allowed (replicate 65536 0) (full 0) false s formed (not-program smi))
+    (λ h. none-enters e inside smi (enters-as-stated m (filled 0) s h .by)) in (
+      pass true 1 refl .latched refl refl,
+      pass false 1 refl .ignored refl refl,
+      pass true 0 refl .nothing (λ h. omega arith),
+      pass false 0 refl .nothing (λ h. omega arith),
+    )
 
 steps-none : NoReset stepsToEntry
 steps-none =

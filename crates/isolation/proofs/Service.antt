@@ -102,10 +102,9 @@ passes-as-stated m x smi current i may not = rw (performs m x (Boundary smi curr
     go false e =
         rw e
         (record {
-          latched = λ h k. rw (eq-eqb smi 1 h, k) (refl, refl);
-          ignored = λ h k. rw (eq-eqb smi 1 h, k) (refl, refl);
-          nothing = λ h. rw (ne-eqb smi 1 h) (refl, refl);
-          memory = refl;
+          latched = λ h k. rw (eq-eqb smi 1 h, k);
+          ignored = λ h k. rw (eq-eqb smi 1 h, k);
+          nothing = λ h. rw (ne-eqb smi 1 h);
         })
 
 -- ---- what RSM loads

@@ -1,7 +1,7 @@
 -- An example of what each theorem of this crate asks for, so that none of them speaks of nothing.
 use Prim.Native.Nat.{ℕ, _+_}
 use mathlib.Core.Path.{_≡_}
-use mathlib.Core.Bool.{true, false}
+use mathlib.Core.Bool.{Bool, true, false}
 use mathlib.Core.List.{List, [], _∷_}
 use lib.ListN.{length, replicate}
 use Rattle.memory.specs.Memory.{Memories, memories}
@@ -10,6 +10,7 @@ use Rattle.steps.specs.declared.Step.the-variants.{Reset, Read, PortRead, Opcod
 use Rattle.steps.specs.declared.Transfer.{Transfer}
 use Rattle.steps.specs.declared.Interruption.{Interruption}
 use Rattle.steps.specs.declared.Interruption.the-variants.{None, Input, Output, StringInput, StringOutput, RepInput, RepOutput}
+use Rattle.steps.specs.declared.Answer.the-variants.{Nothing, Ignored, Latched}
 use Rattle.steps.specs.Answers.{refusal}
 use Rattle.steps.specs.Widths.{StepFits}
 use Rattle.refusals.specs.declared.Verdict.the-variants.{Allowed}
@@ -24,7 +25,8 @@ use Rattle.nesting.specs.Nesting.{smmMode}
 use Rattle.opcodes.specs.Decode.{smintOpcode}
 use Rattle.machine.specs.declared.Machine.{Machine}
 use Rattle.segments.specs.Segments.{resetSegments}
-use Rattle.machine.specs.Machines.{machine, settingsOf, resetRegisters, withHalted}
+use Rattle.machine.specs.Machines.{machine, settingsOf, resetRegisters, withHalted, withLatched}
+use Rattle.machine.specs.Outcomes.{Outcome, gives, ends}
 use Rattle.machine.specs.Steps.{stepped}
 use Rattle.isolation.specs.Widths.{MachineFits}
 use Rattle.runs.specs.Runs.{run, answersOf}
@@ -118,6 +120,20 @@ BoundaryExamples =
     × BoundaryExample (locked e) (StringInput 0x5000) 0x1000 0xfff0
     × BoundaryExample (locked e) (StringOutput byteOut 0x5000) 0x1000 0xfff0
     × BoundaryExample (withHalted (locked e) true) None 0xfff0 0xfff0
+
+-- Boundaries that don't enter, where USE_SMI is 0: inside the mode an asserted SMI is latched, outside it is ignored, and one that isn't
+-- asserted does nothing.
+abbrev pub disabled : Edition → Bool → Machine
+disabled e inside = machine resetRegisters resetSegments false inside false (sample e 0x00 0x01 .config)
+
+abbrev pub PassingExamples : Type 0
+PassingExamples =
+    (e : Edition)
+    → let after : Bool → ℕ → Outcome = λ inside smi. stepped (disabled e inside) (filled 0) (Boundary smi 0x1000 None) in
+    (after true 1 ≡ ends (gives (withLatched (disabled e true) true) Latched) (filled 0))
+    × (after false 1 ≡ ends (gives (disabled e false) Ignored) (filled 0))
+    × (after true 0 ≡ ends (gives (disabled e true) Nothing) (filled 0))
+    × (after false 0 ≡ ends (gives (disabled e false) Nothing) (filled 0))
 
 abbrev pub SmintExamples : Type 0
 SmintExamples = (e : Edition) → EntryExample (underSmac e) (Opcode (smintOpcode e) 0 0 0x1002)

@@ -12,6 +12,7 @@ use Rattle.memory.specs.Memory.{Memories}
 use Rattle.steps.specs.declared.Step.{Step}
 use Rattle.steps.specs.declared.Step.the-variants.{Opcode, Boundary}
 use Rattle.steps.specs.declared.Interruption.{Interruption}
+use Rattle.steps.specs.declared.Answer.the-variants.{Nothing, Ignored, Latched}
 use Rattle.steps.specs.Answers.{numberOf}
 use Rattle.steps.specs.Widths.{StepFits}
 use Rattle.refusals.specs.declared.Verdict.the-variants.{Allowed}
@@ -26,7 +27,7 @@ use Rattle.header.specs.Header.{trapOf, headerLength, headerBytes, wordIn, resu
 use Rattle.header.specs.Header.Word.{CurrentIp, NextIp}
 use Rattle.header.specs.Entry.{entryCr0, entryCs}
 use Rattle.machine.specs.declared.Machine.{Machine}
-use Rattle.machine.specs.Outcomes.{Outcome}
+use Rattle.machine.specs.Outcomes.{Outcome, gives, ends}
 use Rattle.machine.specs.Machines.{settingsOf, editionOf, withLatched, withSettings}
 use Rattle.machine.specs.Service.{savedAtBoundary, savedBySmint}
 use Rattle.machine.specs.Steps.{valid, stepped}
@@ -95,10 +96,9 @@ EntersAsStated = (m : Machine) (x : Memories) (s : Step) → answerTo m x s ≡ 
 -- What a boundary does that isn't refused and doesn't enter: inside the mode an asserted SMI is latched, outside it is ignored, and nothing else
 -- moves. m and x are before it, smi says whether an SMI is asserted, and o is after it.
 pub record Passing (m : Machine) (x : Memories) (smi : ℕ) (o : Outcome) : Type 0 where
-  pub latched : smi ≡ 1 → m .inside ≡ true → (numberOf (o .stepped .answer) ≡ 10) × (o .stepped .machine ≡ withLatched m true)
-  pub ignored : smi ≡ 1 → m .inside ≡ false → (numberOf (o .stepped .answer) ≡ 9) × (o .stepped .machine ≡ m)
-  pub nothing : (smi ≡ 1 → ⊥) → (numberOf (o .stepped .answer) ≡ 8) × (o .stepped .machine ≡ m)
-  pub memory : o .memory ≡ x
+  pub latched : smi ≡ 1 → m .inside ≡ true → o ≡ ends (gives (withLatched m true) Latched) x
+  pub ignored : smi ≡ 1 → m .inside ≡ false → o ≡ ends (gives m Ignored) x
+  pub nothing : (smi ≡ 1 → ⊥) → o ≡ ends (gives m Nothing) x
 
 abbrev pub PassesAsStated : Type 0
 PassesAsStated =

@@ -6,7 +6,7 @@ ghost use Rattle.isolation.specs.Service.{EntersWhereDue, EntersAsStated
 ghost use Rattle.isolation.specs.Isolation.{Isolated, SameAnswers};
 ghost use Rattle.isolation.specs.Tightness.{StartAsked, NoResetAsked, UpToEntryAsked, LastIsLast, ThroughEntryAsked, WholeList, HeaderDetermines, EntryDetermines, ResumptionDetermines, ResumeDetermines, PointersDetermine, AgreementDetermines};
 ghost use Rattle.isolation.specs.Editions.{EditionStays, LockHolds, NoService, SameWithoutNews, CommonAsked};
-ghost use Rattle.isolation.specs.Examples.{IsolationExamples, BoundaryExamples, SmintExamples, RefusalExamples, LaterExamples, AlikeExample};
+ghost use Rattle.isolation.specs.Examples.{IsolationExamples, BoundaryExamples, PassingExamples, SmintExamples, RefusalExamples, LaterExamples, AlikeExample};
 
 // These hold the gate to the theorems, since a function is proved only with all that it ensures.
 fn demand_1()
@@ -25,6 +25,7 @@ fn demand_2()
     ensures pointers { λ r. ⌜ PointersAsStated ⌝ }
     ensures boundaries { λ r. ⌜ BoundaryExamples ⌝ }
     ensures smint { λ r. ⌜ SmintExamples ⌝ }
+    ensures passing { λ r. ⌜ PassingExamples ⌝ }
 {}
 
 fn demand_3()
