@@ -9,7 +9,7 @@ use Rattle.fields.specs.Fields.{bit}
 use Rattle.settings.specs.declared.Settings.{Settings}
 use Rattle.settings.specs.Settings.{byteOf, withByte}
 use Rattle.nesting.specs.Nesting.{smmMode, bitN, nestable, withN, enhanced, enteredSettings, resumedSettings}
-use Rattle.nesting.specs.Moving.{OnlyN, OnlyNDetermines, BitsAsked, OnlyNMoves, NothingMoves, LastMoves}
+use Rattle.nesting.specs.Moving.{OnlyN, OnlyNDetermines, BitsAsked, BitsExamples, OnlyNMoves, NothingMoves, LastMoves}
 
 pub only-n-determines : OnlyNDetermines
 unfolding withN withByte byteOf
@@ -54,6 +54,21 @@ bits-asked s = (
       rw e (mode, both-bits (smmMode s) (bitN s) ∙ rw (mode, n)),
   λ e. rw e (refl, refl),
 )
+
+set : (b : Bool) → bit b ≡ 1 → b ≡ true
+set true e = refl
+set false e = absurd (omega arith)
+
+clear : (b : Bool) → bit b ≡ 0 → b ≡ false
+clear true e = absurd (omega arith)
+clear false e = refl
+
+pub bits-examples : BitsExamples
+unfolding withByte
+bits-examples s e =
+    let at : (v : ℕ) → (bit (enhanced (withByte s 0xea v)) ≡ v % 2) × (bit (nestable (withByte s 0xea v)) ≡ v % 2 * (v / 64 % 2))
+    = λ v. bits-asked (withByte s 0xea v) .0 e in
+    (set _ (at 0xff .1), set _ (at 0xbf .0), clear _ (at 0xbf .1), clear _ (at 0xfe .0))
 
 -- another N leaves the rest
 with-n : (s : Settings) (n : ℕ) → n ≤ 1 → OnlyN s (withN s n) n

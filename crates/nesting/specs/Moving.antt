@@ -5,7 +5,7 @@ use mathlib.Core.Bool.{true, false}
 use Rattle.fields.specs.Fields.{bit}
 use Rattle.settings.specs.declared.Edition.the-variants.{Cx486, Mii}
 use Rattle.settings.specs.declared.Settings.{Settings}
-use Rattle.settings.specs.Settings.{byteOf}
+use Rattle.settings.specs.Settings.{byteOf, withByte}
 use Rattle.nesting.specs.Nesting.{withN, enhanced, nestable, enteredSettings, resumedSettings}
 
 -- settings t that are s with N at n: the edition, the bytes at all other indexes, and the other bits of CCR6 are as they were
@@ -26,6 +26,13 @@ BitsAsked =
     (s : Settings)
     → (s .edition ≡ Mii → (bit (enhanced s) ≡ s .ccr6 % 2) × (bit (nestable s) ≡ s .ccr6 % 2 * (s .ccr6 / 64 % 2)))
     × (s .edition ≡ Cx486 → (enhanced s ≡ false) × (nestable s ≡ false))
+
+-- the same of CCR6 FFh, BFh and FEh in the later edition
+abbrev pub BitsExamples : Type 0
+BitsExamples =
+    (s : Settings) → s .edition ≡ Mii
+    → let with = withByte s 0xea in
+    (nestable (with 0xff) ≡ true) × (enhanced (with 0xbf) ≡ true) × (nestable (with 0xbf) ≡ false) × (enhanced (with 0xfe) ≡ false)
 
 -- where service nests, entry leaves N 0 and RSM leaves it 1
 abbrev pub OnlyNMoves : Type 0

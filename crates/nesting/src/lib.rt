@@ -2,7 +2,7 @@ ghost use mathlib.Core.Path.{_≡_};
 ghost use mathlib.Core.Bool.{cond};
 ghost use Prim.Native.Nat.{_≤_};
 ghost use Rattle.nesting.specs.Nesting.{smmMode, bitN, withN, enhanced, enteredSettings, resumedSettings, nestable, takes, staysInside};
-ghost use Rattle.nesting.specs.Moving.{OnlyNDetermines, BitsAsked, OnlyNMoves, NothingMoves, LastMoves};
+ghost use Rattle.nesting.specs.Moving.{OnlyNDetermines, BitsAsked, BitsExamples, OnlyNMoves, NothingMoves, LastMoves};
 use settings::Settings;
 
 // Whether service can nest: in the later edition with SMM_MODE 1.
@@ -80,6 +80,7 @@ pub fn stays_inside(s: Settings, n: bool) -> bool
 fn laws()
     ensures determined { λ r. ⌜ OnlyNDetermines ⌝ }
     ensures asked { λ r. ⌜ BitsAsked ⌝ }
+    ensures examples { λ r. ⌜ BitsExamples ⌝ }
     ensures only { λ r. ⌜ OnlyNMoves ⌝ }
     ensures nothing { λ r. ⌜ NothingMoves ⌝ }
     ensures last { λ r. ⌜ LastMoves ⌝ }
