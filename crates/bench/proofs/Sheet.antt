@@ -41,7 +41,7 @@ use Rattle.machine.specs.Steps.{portStep, performed, stepped}
 use Rattle.isolation.specs.Service.{Entering, recorded, Entry}
 use Rattle.isolation.specs.Service.Entering.{at-boundary}
 use Rattle.isolation.specs.Examples.{filled}
-use Rattle.isolation.proofs.Cases.{unlike}
+use Rattle.fields.proofs.Cases.{unlike}
 use Rattle.isolation.proofs.Service.{performs, enters-where-due, enters-as-stated}
 use Rattle.isolation.proofs.Examples.{whole, allowed, full}
 use Rattle.bench.specs.Lines.{Line, Smar, IsUsable, LockedCcr1, HeaderAt, EntryCs, EntryCr0, LevelWord, Header, region, Armed, ArmedExample, Before, regionBefore, outcome, Enters, Stores, fromEnd, Example, states, sheet, rowAt, SheetHolds}

@@ -2,7 +2,7 @@
 use mathlib.Core.Path.{_≡_, refl, _∙_}
 use mathlib.Core.Bool.{Bool, true, _&&_, and-eq-true-iff}
 use mathlib.Core.List.{List, [], _∷_, _++_, map, flatMap}
-use Prim.Native.Nat.{ℕ, zero, suc, _+_, _*_, _/_, _%_, _≤_, _<_}
+use Prim.Native.Nat.{ℕ, zero, suc, _+_, _*_, _/_, _%_, _-_, _≤_, _<_}
 use native.Mathlib.Omega.{arith}
 use lib.ListN.{length, getD}
 use lib.Seq.{sets, getD-append-add}
@@ -14,7 +14,7 @@ use Rattle.fields.proofs.Storing.{stored-byte}
 use Rattle.header.specs.declared.Level.{Level}
 use Rattle.header.specs.declared.Level.the-variants.{Zero, One, Two, Three}
 use Rattle.header.specs.declared.Saved.{Saved}
-use Rattle.header.specs.Header.{Word, depth, contents, upward, levelNumber, levelOf, wordsBytes, headerBytes, headed, wordIn, resumed, nestedIn}
+use Rattle.header.specs.Header.{headerLength, Word, depth, contents, upward, levelNumber, levelOf, wordsBytes, headerBytes, headed, wordIn, resumed, nestedIn}
 use Rattle.header.specs.ReadBack.{TableFills, SavedFits, WordsReadBack, RegistersReadBack, NestedReadBack}
 
 -- each word begins four bytes below those above it
@@ -34,10 +34,14 @@ fills (w ∷ ws) e (suc k) h =
 pub table-fills : TableFills
 table-fills = (refl, fills upward refl)
 
-pub length-bytes : (ws : List ℕ) → length (wordsBytes ws) ≡ 4 * length ws
+length-bytes : (ws : List ℕ) → length (wordsBytes ws) ≡ 4 * length ws
 unfolding flatMap bytesOf
 length-bytes [] = refl
 length-bytes (w ∷ ws) = let e = length-bytes ws in omega arith
+
+pub header-long : (s : Saved) → length (headerBytes s) ≡ headerLength
+unfolding headerBytes
+header-long s = length-bytes (map (contents s) upward)
 
 -- the words that the bytes hold
 held : (ws : List ℕ) (k : ℕ) → k < length ws → getD ws k 0 < 4294967296 → fieldAt (wordsBytes ws) (4 * k) 4 ≡ getD ws k 0
@@ -132,3 +136,46 @@ nested-back g at s h f =
     let n : contents s Word.Flags / 32768 % 2 ≡ bit (s .nested)
     = omega (arith, bit-small (s .registers .writable), bit-small (t .output), bit-small (t .rep), bit-small (s .smint), bit-small (s .halted), bit-small (s .nested)) in
     rw (back s f g at h Word.Flags, n) (bit-back (s .nested))
+
+-- ---- a header by its bytes
+
+-- every word lies within the 48 bytes
+depths : (w : Word) → (4 ≤ depth w) × (depth w ≤ headerLength)
+depths Word.Dr7 = (omega arith, omega arith)
+depths Word.Eflags = (omega arith, omega arith)
+depths Word.Cr0 = (omega arith, omega arith)
+depths Word.CurrentIp = (omega arith, omega arith)
+depths Word.NextIp = (omega arith, omega arith)
+depths Word.CsLevel = (omega arith, omega arith)
+depths Word.DescriptorHigh = (omega arith, omega arith)
+depths Word.DescriptorLow = (omega arith, omega arith)
+depths Word.Flags = (omega arith, omega arith)
+depths Word.PortSize = (omega arith, omega arith)
+depths Word.OutputData = (omega arith, omega arith)
+depths Word.StringIndex = (omega arith, omega arith)
+
+-- what RSM reads goes by these bytes alone
+module _ (g h : List ℕ) (at : ℕ) (same : (i : ℕ) → i < headerLength → getD g (at + i) 0 ≡ getD h (at + i) 0) where
+  pub word-same : (w : Word) → wordIn g at w ≡ wordIn h at w
+  word-same w =
+      let d = depths w in
+      let off = headerLength - depth w in
+      field-same g h (at + off) (at + off) 4
+      (λ i l. let e : at + off + i ≡ at + (off + i) = omega arith in rw e (same (off + i) (omega arith)))
+
+  pub resumed-same : resumed g at ≡ resumed h at
+  unfolding resumed
+  resumed-same =
+      rw (
+        word-same Word.NextIp,
+        word-same Word.Eflags,
+        word-same Word.Cr0,
+        word-same Word.Dr7,
+        word-same Word.CsLevel,
+        word-same Word.DescriptorLow,
+        word-same Word.DescriptorHigh,
+        word-same Word.Flags,
+      )
+
+  pub nested-same : nestedIn g at ≡ nestedIn h at
+  nested-same = rw (word-same Word.Flags)

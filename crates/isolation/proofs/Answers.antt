@@ -14,7 +14,7 @@ use Rattle.config.specs.Ports.{answering, indexed, internal, portRead, portWrit
 use Rattle.machine.specs.declared.Machine.{Machine}
 use Rattle.machine.specs.declared.Stepped.{Stepped}
 use Rattle.machine.specs.Service.{passed}
-use Rattle.isolation.proofs.Cases.{either, unlike}
+use Rattle.fields.proofs.Cases.{either, unlike}
 
 -- an answer that is neither a refusal nor "entered" nor "resumed"
 pub record Plain (a : Answer) : Type 0 where

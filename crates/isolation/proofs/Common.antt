@@ -34,7 +34,8 @@ use Rattle.machine.specs.Outcomes.{Outcome, ends}
 use Rattle.machine.specs.Service.{enteredMachine, entry, taken, passed, boundaryStep, resume}
 use Rattle.machine.specs.Steps.{window, permitted, valid, operationOn, saved, restored, smhrStored, smhrLoaded, operated, withOperand, opcodeStep, performed, decided, stepped}
 use Rattle.isolation.specs.Editions.{settings486, as486, outcome486, common, SameWithoutNews, CommonAsked}
-use Rattle.isolation.proofs.Cases.{by-name, both, unlike}
+use Rattle.fields.proofs.Cases.{both, unlike}
+use Rattle.segments.proofs.Names.{by-name}
 
 -- ---- what is the same of the settings
 

@@ -31,7 +31,7 @@ use Rattle.isolation.specs.Service.{Entering, recorded, latchAfter, Resu
 use Rattle.isolation.specs.Service.Entering.{at-boundary, by-smint}
 use Rattle.isolation.specs.Service.Resuming.{by-rsm}
 use Rattle.isolation.proofs.Answers.{Plain, plain, read-keeps, write-keeps, passes}
-use Rattle.isolation.proofs.Cases.{both, across, either, unlike}
+use Rattle.fields.proofs.Cases.{both, across, either, unlike}
 use Rattle.isolation.proofs.Nesting.{takes-where}
 
 -- what holds wherever a step enters

@@ -28,7 +28,8 @@ use Rattle.machine.specs.Steps.{window, permitted, valid, operationOn, saved, r
 use Rattle.isolation.specs.Service.{Entering, Resuming}
 use Rattle.isolation.specs.Editions.{EditionStays, LockHolds, NoService}
 use Rattle.isolation.proofs.Answers.{read-keeps, write-keeps}
-use Rattle.isolation.proofs.Cases.{by-name, either, unlike}
+use Rattle.fields.proofs.Cases.{either, unlike}
+use Rattle.segments.proofs.Names.{by-name}
 use Rattle.isolation.proofs.Nesting.{entered-kept, resumed-kept}
 use Rattle.isolation.proofs.Service.{enters-as-stated, resumes-as-stated}
 

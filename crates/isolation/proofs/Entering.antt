@@ -1,6 +1,6 @@
 -- The header in a memory, and the steps that enter or resume. Assumes nothing.
 use mathlib.Core.Path.{_≡_, refl}
-use mathlib.Core.List.{List, map}
+use mathlib.Core.List.{List}
 use Prim.Native.Nat.{ℕ, _+_, _≤_}
 use native.Mathlib.Omega.{arith}
 use lib.ListN.{length}
@@ -14,22 +14,18 @@ use Rattle.refusals.proofs.Laws.{sizes}
 use Rattle.settings.specs.Settings.{headerPlace}
 use Rattle.settings_laws.proofs.Place.{place-room}
 use Rattle.header.specs.declared.Saved.{Saved}
-use Rattle.header.specs.Header.{headerLength, contents, upward, headerBytes, headed}
-use Rattle.header.proofs.ReadBack.{length-bytes}
+use Rattle.header.specs.Header.{headerLength, headerBytes, headed}
+use Rattle.header.proofs.ReadBack.{header-long}
 use Rattle.machine.specs.declared.Machine.{Machine}
 use Rattle.machine.specs.Outcomes.{Outcome, ends}
 use Rattle.machine.specs.Machines.{settingsOf}
 use Rattle.machine.specs.Service.{entry, resume}
 use Rattle.machine.specs.Steps.{stepped}
 use Rattle.isolation.specs.Service.{answerTo, OnlyHeader, Entering, recorded, latchAfter, Resuming}
-use Rattle.isolation.proofs.Cases.{unlike}
+use Rattle.fields.proofs.Cases.{unlike}
 use Rattle.isolation.proofs.Doing.{Able, Does, step-does}
 
 -- ---- the header in a memory
-
-header-long : (s : Saved) → length (headerBytes s) ≡ headerLength
-unfolding headerBytes
-header-long s = length-bytes (map (contents s) upward)
 
 pub only-header : (g : List ℕ) (at : ℕ) (s : Saved) → at + headerLength ≤ length g → OnlyHeader g (headed g at s) at (headerBytes s)
 unfolding headed

@@ -38,7 +38,7 @@ use Rattle.isolation.specs.Service.{Entering, Passing, PointersBy}
 use Rattle.isolation.specs.Service.Entering.{at-boundary, by-smint}
 use Rattle.isolation.specs.Isolation.{NoReset, UpToEntry, lastNumber}
 use Rattle.isolation.specs.Examples.{sampleSettings, sample, locked, underSmac, filled, stepsToEntry, rsm, IsolationExamples, EntryExample, SmintExamples, BoundaryExample, byteOut, BoundaryExamples, disabled, PassingExamples, RefusalExamples, LaterExamples, AlikeExample}
-use Rattle.isolation.proofs.Cases.{unlike}
+use Rattle.fields.proofs.Cases.{unlike}
 use Rattle.isolation.proofs.Service.{performs, answered-allowed, enters-where-due, enters-as-stated, passes-as-stated, resumes-as-stated, resumes-as-entered}
 use Rattle.isolation.proofs.Pointers.{pointers-as-stated}
 use Rattle.isolation.proofs.Tightness.{no-reset-asked, up-to-entry-asked}

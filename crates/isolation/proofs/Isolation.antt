@@ -41,7 +41,7 @@ use Rattle.runs.proofs.Turns.{preceded}
 use Rattle.isolation.specs.Service.{OnlyHeader}
 use Rattle.isolation.specs.Isolation.{Start, NoReset, UpToEntry, lastNumber, SameHeader, Agree, Isolated, throughEntry, SameAnswers}
 use Rattle.isolation.proofs.Answers.{read-keeps, write-keeps, passes}
-use Rattle.isolation.proofs.Cases.{both}
+use Rattle.fields.proofs.Cases.{both}
 use Rattle.isolation.proofs.Nesting.{entered-kept, entered-fixed}
 use Rattle.isolation.proofs.Doing.{taken-where}
 use Rattle.isolation.proofs.Entering.{only-header}

@@ -1,4 +1,3 @@
-pub mod Cases
 pub mod Answers
 pub mod Nesting
 pub mod Doing

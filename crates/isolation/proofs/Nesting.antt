@@ -10,7 +10,7 @@ use Rattle.settings.specs.Settings.{headerEnd, headerFits, headerPlace, enabled
 use Rattle.settings_laws.specs.Locked.{Fixed486, Fixed}
 use Rattle.nesting.specs.Nesting.{withN, enhanced, enteredSettings, resumedSettings, bitN, nestable, takes}
 use Rattle.nesting.proofs.Moving.{still-enhanced}
-use Rattle.isolation.proofs.Cases.{both, either}
+use Rattle.fields.proofs.Cases.{both, either}
 
 -- ---- what N doesn't decide is the same after entry, and after RSM
 

@@ -6,6 +6,7 @@ use native.Mathlib.Omega.{arith}
 use Rattle.memory.specs.Memory.{Memories}
 use Rattle.steps.specs.declared.Interruption.{Interruption}
 use Rattle.steps.specs.declared.Interruption.the-variants.{None, Input, Output, StringInput, StringOutput, RepInput, RepOutput}
+use Rattle.steps.specs.declared.Step.{Step}
 use Rattle.steps.specs.declared.Step.the-variants.{Boundary}
 use Rattle.steps.specs.Steps.{malformed, otherThanNone}
 use Rattle.steps.specs.Widths.{StepFits}
@@ -23,9 +24,9 @@ use Rattle.isolation.specs.Widths.{MachineFits}
 use Rattle.isolation.specs.Service.{answerTo, Entering, recorded, PointersAsStated}
 use Rattle.isolation.specs.Service.Entering.{at-boundary}
 use Rattle.isolation.specs.Tightness.{PointersDetermine}
-use Rattle.isolation.proofs.Cases.{either, unlike}
+use Rattle.fields.proofs.Cases.{either, unlike}
 use Rattle.isolation.proofs.Entering.{room, enters}
-use Rattle.isolation.proofs.Service.{answered-allowed, recorded-fits, resumes-as-entered}
+use Rattle.isolation.proofs.Service.{answered-allowed, recorded-fits, one-way, resumes-as-entered}
 
 -- a REP form is an interruption, and a halted machine may meet none
 rep-interrupts : (i : Interruption) → trapOf i .rep ≡ true → otherThanNone i ≡ true
@@ -48,16 +49,23 @@ pub at-one : (m : Machine) {smi current : ℕ} {i : Interruption} (by : Entering
     → recorded m by ≡ savedAtBoundary m current i
 at-one m (at-boundary on inner asked) = refl
 
--- each word that it writes is found
+-- each word that an entry writes is found
+pub word-there : (m : Machine) (x : Memories) (s : Step) → MachineFits m → StepFits s → answerTo m x s ≡ 11 → (by : Entering m s) (v : Word)
+    → wordIn (stepped m x s .memory .management) (headerPlace (settingsOf m)) v ≡ contents (recorded m by) v
+unfolding entry
+word-there m x s f w h by v =
+    let e = enters m x s h in
+    rw (e .outcome)
+    (words-back (x .management) (headerPlace (settingsOf m)) (recorded m (e .by)) (room m x (e .able)) (recorded-fits m (e .by) f w) v
+    ∙ ap (λ r. contents r v) (one-way m (e .by) by))
+
 pub word-back : (m : Machine) (x : Memories) (smi current : ℕ) (i : Interruption) → MachineFits m → StepFits (Boundary smi current i)
     → answerTo m x (Boundary smi current i) ≡ 11 → (v : Word)
     → wordIn (stepped m x (Boundary smi current i) .memory .management) (headerPlace (settingsOf m)) v ≡ contents (savedAtBoundary m current i) v
-unfolding entry
 word-back m x smi current i f w h v =
-    let e = enters m x (Boundary smi current i) h in
-    rw (e .outcome)
-    (words-back (x .management) (headerPlace (settingsOf m)) (recorded m (e .by)) (room m x (e .able)) (recorded-fits m (e .by) f w) v
-    ∙ ap (λ r. contents r v) (at-one m (e .by)))
+    let s = Boundary smi current i in
+    let by = enters m x s h .by in
+    word-there m x s f w h by v ∙ ap (λ r. contents r v) (at-one m by)
 
 pub pointers-as-stated : PointersAsStated
 pointers-as-stated m x smi current i modrm a next f w h =

@@ -9,7 +9,7 @@ use Rattle.machine.specs.declared.Machine.{Machine}
 use Rattle.machine.specs.Outcomes.{Outcome}
 use Rattle.machine.specs.Service.{entry, resume}
 use Rattle.isolation.specs.Refusals.{RefusedAsCalledFor, RefusalChangesNothing}
-use Rattle.isolation.proofs.Cases.{unlike}
+use Rattle.fields.proofs.Cases.{unlike}
 use Rattle.isolation.proofs.Doing.{Does, step-does}
 
 number : {m : Machine} {x : Memories} {s : Step} {o : Outcome} {n : ℕ} → Does m x s o n

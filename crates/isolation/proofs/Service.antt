@@ -37,7 +37,7 @@ use Rattle.isolation.specs.Widths.{MachineFits}
 use Rattle.isolation.specs.Service.{answerTo, Entering, recorded, latchAfter, EntersWhereDue, EntersAsStated, Passing, PassesAsStated, ResumesWhereDue, ResumesAsStated, Resume, ResumesAsEntered}
 use Rattle.isolation.specs.Service.Entering.{at-boundary, by-smint}
 use Rattle.isolation.specs.Service.Resuming.{by-rsm}
-use Rattle.isolation.proofs.Cases.{either, unlike}
+use Rattle.fields.proofs.Cases.{either, unlike}
 use Rattle.isolation.proofs.Nesting.{entered-kept, takes-is, nestable-enhanced}
 use Rattle.isolation.proofs.Doing.{Able}
 use Rattle.isolation.proofs.Entering.{only-header, room, enters, resumes}

@@ -3,12 +3,11 @@ use mathlib.Core.Path.{_≡_, refl, sym, ap, subst, _∙_}
 use mathlib.Core.Bool.{Bool, true, false, and-eq-true-iff}
 use mathlib.Core.List.{List}
 use mathlib.Core.Logic.{_⊎_, inl, inr, ⊎-elim}
-use Prim.Native.Nat.{ℕ, _+_, _-_, _≤_, _<_}
+use Prim.Native.Nat.{ℕ, _+_, _≤_, _<_}
 use native.Mathlib.Omega.{arith}
 use lib.ListN.{length, getD}
 use Rattle.region.specs.declared.Region.{Region}
 use Rattle.region.specs.Region.{usable}
-use Rattle.fields.proofs.Laws.{field-same}
 use Rattle.memory.specs.Memory.{Memories}
 use Rattle.steps.specs.declared.Step.{Step}
 use Rattle.steps.specs.declared.Step.the-variants.{Opcode}
@@ -24,9 +23,8 @@ use Rattle.settings_laws.proofs.Place.{place-below-end}
 use Rattle.nesting.specs.Nesting.{enhanced, resumedSettings, staysInside}
 use Rattle.nesting.proofs.Moving.{nothing-moves, last-moves}
 use Rattle.header.specs.declared.Saved.{Saved}
-use Rattle.header.specs.Header.{levelNumber, headerLength, headerBytes, headed, Word, depth, wordIn, resumed, nestedIn, withEip}
-use Rattle.header.specs.Header.Word.{Dr7, Eflags, Cr0, CurrentIp, NextIp, CsLevel, DescriptorHigh, DescriptorLow, Flags, PortSize, OutputData, StringIndex}
-use Rattle.header.proofs.ReadBack.{registers-back, nested-back}
+use Rattle.header.specs.Header.{levelNumber, headerLength, headerBytes, headed, resumed, nestedIn, withEip}
+use Rattle.header.proofs.ReadBack.{registers-back, nested-back, resumed-same, nested-same}
 use Rattle.machine.specs.declared.Machine.{Machine}
 use Rattle.machine.specs.Machines.{machine, settingsOf, withSettings}
 use Rattle.machine.specs.Outcomes.{Outcome, gives, ends}
@@ -35,7 +33,7 @@ use Rattle.machine.specs.Steps.{permitted, valid, stepped}
 use Rattle.isolation.specs.Widths.{MachineFits}
 use Rattle.isolation.specs.Service.{answerTo, OnlyHeader, Entering, recorded, Resuming, Resume}
 use Rattle.isolation.specs.Service.Resuming.{by-rsm}
-use Rattle.isolation.proofs.Cases.{unlike}
+use Rattle.fields.proofs.Cases.{unlike}
 use Rattle.isolation.proofs.Doing.{Able, permitted-able}
 use Rattle.isolation.proofs.Edition.{resuming-fits}
 use Rattle.isolation.proofs.Entering.{only-header, room, enters}
@@ -45,47 +43,6 @@ use Rattle.isolation.proofs.Tightness.{resume-determines}
 use Rattle.levels.specs.Levels.{placeOf, headerOf, Stands, OriginRecorded, ReturnsThrough, Overwritten, NeverOut, Moved, BothStand, BothReturn, NothingNests}
 
 -- ---- a header by its bytes
-
--- every word lies within the 48 bytes
-depths : (w : Word) → (4 ≤ depth w) × (depth w ≤ headerLength)
-depths Dr7 = (omega arith, omega arith)
-depths Eflags = (omega arith, omega arith)
-depths Cr0 = (omega arith, omega arith)
-depths CurrentIp = (omega arith, omega arith)
-depths NextIp = (omega arith, omega arith)
-depths CsLevel = (omega arith, omega arith)
-depths DescriptorHigh = (omega arith, omega arith)
-depths DescriptorLow = (omega arith, omega arith)
-depths Flags = (omega arith, omega arith)
-depths PortSize = (omega arith, omega arith)
-depths OutputData = (omega arith, omega arith)
-depths StringIndex = (omega arith, omega arith)
-
--- what RSM reads goes by these bytes alone
-module _ (g h : List ℕ) (at : ℕ) (same : (i : ℕ) → i < headerLength → getD g (at + i) 0 ≡ getD h (at + i) 0) where
-  word-same : (w : Word) → wordIn g at w ≡ wordIn h at w
-  word-same w =
-      let d = depths w in
-      let off = headerLength - depth w in
-      field-same g h (at + off) (at + off) 4
-      (λ i l. let e : at + off + i ≡ at + (off + i) = omega arith in rw e (same (off + i) (omega arith)))
-
-  resumed-same : resumed g at ≡ resumed h at
-  unfolding resumed
-  resumed-same =
-      rw (
-        word-same NextIp,
-        word-same Eflags,
-        word-same Cr0,
-        word-same Dr7,
-        word-same CsLevel,
-        word-same DescriptorLow,
-        word-same DescriptorHigh,
-        word-same Flags,
-      )
-
-  nested-same : nestedIn g at ≡ nestedIn h at
-  nested-same = rw (word-same Flags)
 
 -- a header that stands is as good as one that was just written
 stands-written : (g : List ℕ) (at : ℕ) (s : Saved) → at + headerLength ≤ length g → Stands g at (headerBytes s)
@@ -138,7 +95,7 @@ module _ (m : Machine) (x : Memories) (s : Step) (f : MachineFits m) (w : StepFi
   as-written : (i : ℕ) → i < headerLength → getD after (placeOf m + i) 0 ≡ getD written (placeOf m + i) 0
   as-written i l = entry-header m x s h by .header i l ∙ sym (only-header (x .management) (placeOf m) (recorded m by) there .header i l)
 
-  registers-there : resumed after (placeOf m) ≡ withEip (m .registers) (recorded m by .next)
+  pub registers-there : resumed after (placeOf m) ≡ withEip (m .registers) (recorded m by .next)
   registers-there =
       resumed-same after written (placeOf m) as-written
       ∙ registers-back (x .management) (placeOf m) (recorded m by) there (recorded-fits m by f w)

@@ -1,5 +1,6 @@
 ghost use mathlib.Core.Path.{_≡_};
 ghost use Rattle.opcodes.specs.Decode.{dataSegment, svdc, rsdc, plain, later, grouped, smintOpcode, operationOf, operandSize, allowed};
+ghost use Rattle.opcodes.specs.Bytes.{ResumedBy, SavedBy, CsNotRestored, SevenRestored};
 use segments::SegmentName;
 use settings::Edition;
 use settings::Settings;
@@ -154,3 +155,11 @@ impl Operation {
         }
     }
 }
+
+// No code of the model: it holds the gate to which bytes ask for what.
+fn laws()
+    ensures rsm { λ r. ⌜ ResumedBy ⌝ }
+    ensures saved { λ r. ⌜ SavedBy ⌝ }
+    ensures cs { λ r. ⌜ CsNotRestored ⌝ }
+    ensures seven { λ r. ⌜ SevenRestored ⌝ }
+{}

@@ -1,12 +1,18 @@
 -- What follows from the first refusal. Assumes nothing.
 use mathlib.Core.Path.{_≡_, refl, sym, ap, _∙_}
 use mathlib.Core.Bool.{Bool, true, false, cond, not, _&&_, _||_, and-eq-true-iff, Bool·not-not}
-use Prim.Native.Nat.{ℕ}
+use Prim.Native.Nat.{ℕ, _+_, _-_, _<_}
 use native.Mathlib.Omega.{arith}
-use lib.Dec.{leb, eqb}
+use lib.Dec.{leb, ltb, eqb}
 use lib.ListN.{length}
-use borrow.Author.Tests.{eqb-true}
-use Rattle.memory.specs.Memory.{Memories}
+use borrow.Author.Tests.{eqb-true, leb-false}
+use Rattle.region.specs.declared.Region.{Region}
+use Rattle.region.specs.Region.{within}
+use Rattle.region.proofs.Laws.{within-has}
+use Rattle.region.proofs.Usable.{usable-has}
+use Rattle.fields.proofs.Cases.{unlike}
+use Rattle.memory.specs.Memory.{Memories, Cell, cellOf, absent, there}
+use Rattle.memory.proofs.Cells.{Held, each-there}
 use Rattle.steps.specs.declared.Answer.{Answer}
 use Rattle.steps.specs.declared.Answer.the-variants.{WrongSize, Malformed, WhileHalted}
 use Rattle.steps.specs.declared.Step.{Step}
@@ -20,12 +26,32 @@ pub record Sized (x : Memories) : Type 0 where
   pub main-fits : leb (length (x .main)) largestMain ≡ true
   pub management-whole : length (x .management) ≡ managementSize
 
+second : (p q : Bool) → (p || q) ≡ false → q ≡ false
+second true q h = unlike refl h
+second false q h = h
+
 pub sizes : (x : Memories) → wrongSizes x ≡ false → Sized x
 unfolding wrongSizes
 sizes x e =
     let both = leb (length (x .main)) largestMain && eqb (length (x .management)) managementSize in
     let p = and-eq-true-iff _ _ .0 (sym (Bool·not-not both) ∙ ap not e) in
     record { main-fits = p .0; management-whole = eqb-true _ managementSize (p .1) }
+
+-- there a byte that isn't absent is below its memory's end
+pub held : (w : Region) (x : Memories) (a : ℕ) → wrongSizes x ≡ false → absent w (length (x .main)) a ≡ false → Held x (cellOf w a)
+unfolding absent cellOf
+held w x a z h = go (within w a) refl h
+  where
+    go : (t : Bool) → within w a ≡ t → (ltb 0xffffffff a || (not t && leb (length (x .main)) a)) ≡ false
+        → Held x (cond t (Cell.InManagement (a - w .base)) (Cell.InMain a))
+    go true e h =
+        let p = within-has w a e in
+        omega (arith, p .low, p .high, usable-has w (p .in-usable) .most, sizes x z .management-whole)
+    go false e h = leb-false (length (x .main)) a (second (ltb 0xffffffff a) _ h)
+
+-- and so is each of several that are there
+pub all-held : (w : Region) (x : Memories) (a n : ℕ) → wrongSizes x ≡ false → there w x a n ≡ true → (t : ℕ) → t < n → Held x (cellOf w (a + t))
+all-held w x a n z h t l = held w x (a + t) z (each-there w (length (x .main)) a n h t l)
 
 -- no refusal is called for
 pub record Taken (halted : Bool) (x : Memories) (s : Step) : Type 0 where

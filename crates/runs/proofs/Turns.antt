@@ -3,9 +3,10 @@ use mathlib.Core.Path.{_≡_, refl, ap}
 use mathlib.Core.List.{List, [], _∷_}
 use Prim.Native.Nat.{ℕ, zero, suc, _+_, _<_}
 use native.Mathlib.Omega.{arith}
-use lib.ListN.{length}
+use lib.ListN.{length, getD, take, drop}
 use Rattle.memory.specs.Memory.{Memories}
 use Rattle.steps.specs.declared.Step.{Step}
+use Rattle.steps.specs.declared.Step.the-variants.{Wake}
 use Rattle.events.specs.Events.{Event, event}
 use Rattle.machine.specs.declared.Machine.{Machine}
 use Rattle.machine.specs.declared.Stepped.{Stepped}
@@ -39,3 +40,16 @@ pub run-step : (m : Machine) (x x′ : Memories) (s : Step) (ss : List Step) (d 
     → run m x (s ∷ ss) ≡ preceded (event s (m .inside) (d .answer)) (run (d .machine) x′ ss)
 unfolding run
 run-step m x x′ s ss d e = rw (← e)
+
+-- a run goes on from what its first k steps and the next one have left
+pub goes-on : (m : Machine) (x : Memories) (ss : List Step) (k : ℕ) → k < length ss
+    → let before = run m x (take k ss) in
+    let o = stepped (before .machine) (before .memory) (getD ss k Wake) in
+    run m x ss .machine ≡ run (o .stepped .machine) (o .memory) (drop (k + 1) ss) .machine
+unfolding run
+goes-on m x [] k h = absurd (omega arith)
+goes-on m x (s ∷ ss) zero h = refl
+goes-on m x (s ∷ ss) (suc k) h =
+    let o = stepped m x s in
+    let e : suc k + 1 ≡ suc (k + 1) = omega arith in
+    rw e (goes-on (o .stepped .machine) (o .memory) ss k (omega arith))

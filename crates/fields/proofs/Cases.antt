@@ -1,8 +1,6 @@
--- Going by cases on a test, and on a segment register's name. Assumes nothing.
+-- Going by cases on a test. Assumes nothing.
 use mathlib.Core.Path.{_≡_, refl}
 use mathlib.Core.Bool.{Bool, true, false, cond, not, true≢false}
-use Rattle.segments.specs.declared.SegmentName.{SegmentName}
-use Rattle.segments.specs.declared.SegmentName.the-variants.{Es, Cs, Ss, Ds, Fs, Gs, Ldtr, Tr}
 
 -- both ways of one test, each with what the test says there
 pub both : {A B : Type 0} (P : A → B → Type 0) (b : Bool) {t f : A} {u v : B}
@@ -23,14 +21,3 @@ either P false p q = q refl
 
 pub unlike : {A : Type 0} {b : Bool} → b ≡ true → b ≡ false → A
 unlike p q = absurd (true≢false (cc))
-
--- what holds of each segment register's name holds of any
-pub by-name : (P : SegmentName → Type 0) → P Es → P Cs → P Ss → P Ds → P Fs → P Gs → P Ldtr → P Tr → (n : SegmentName) → P n
-by-name P es cs ss ds fs gs ldtr tr Es = es
-by-name P es cs ss ds fs gs ldtr tr Cs = cs
-by-name P es cs ss ds fs gs ldtr tr Ss = ss
-by-name P es cs ss ds fs gs ldtr tr Ds = ds
-by-name P es cs ss ds fs gs ldtr tr Fs = fs
-by-name P es cs ss ds fs gs ldtr tr Gs = gs
-by-name P es cs ss ds fs gs ldtr tr Ldtr = ldtr
-by-name P es cs ss ds fs gs ldtr tr Tr = tr

@@ -1,0 +1,7 @@
+pub mod Doing
+pub mod Leaving
+pub mod Registers
+pub mod Segments
+pub mod Changing
+pub mod Storing
+pub mod Asked

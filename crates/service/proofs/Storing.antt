@@ -1,0 +1,106 @@
+-- What changes a byte. Assumes nothing.
+use mathlib.Core.Path.{_≡_, refl, sym, ap, subst, _∙_}
+use mathlib.Core.Bool.{Bool, true, false}
+use mathlib.Core.List.{List}
+use Prim.Native.Nat.{ℕ, _+_, _-_, _<_}
+use native.Mathlib.Omega.{arith}
+use lib.Dec.{leb, ltb}
+use lib.ListN.{length, getD, take}
+use lib.Seq.{sets, take-all}
+use borrow.Author.Tests.{ltb-true, ltb-false, leb-true, leb-false}
+use Rattle.region.specs.declared.Region.{Region}
+use Rattle.fields.specs.Fields.{bytesOf}
+use Rattle.fields.proofs.Laws.{length-bytesOf}
+use Rattle.fields.proofs.Storing.{stored-below, stored-above}
+use Rattle.memory.specs.Memory.{Memories, memories, Cell, cellOf, byteIn, store, there}
+use Rattle.memory.proofs.Cells.{bytes-elsewhere, bytes-there}
+use Rattle.steps.specs.declared.Step.{Step}
+use Rattle.steps.specs.declared.Step.the-variants.{Wake}
+use Rattle.refusals.specs.Refusals.{wrongSizes}
+use Rattle.refusals.proofs.Laws.{all-held}
+use Rattle.settings.specs.Settings.{smhr}
+use Rattle.header.specs.Header.{headerBytes, headed}
+use Rattle.header.proofs.ReadBack.{header-long}
+use Rattle.opcodes.specs.declared.Operation.the-variants.{Rdshr}
+use Rattle.machine.specs.declared.Machine.{Machine}
+use Rattle.machine.specs.Machines.{settingsOf}
+use Rattle.machine.specs.Outcomes.{Outcome}
+use Rattle.machine.specs.Steps.{window, smhrStored, operated, stepped}
+use Rattle.runs.specs.Runs.{Run, run}
+use Rattle.runs.proofs.Turns.{steps-in-turn}
+use Rattle.runs.proofs.Stretch.{over}
+use Rattle.levels.specs.Levels.{placeOf}
+use Rattle.levels.proofs.Levels.{entry-header}
+use Rattle.service.specs.NoMark.{serviced, Completes, operandCell}
+use Rattle.service.specs.Stored.{Stores, LeftThere, OnlyStored, KeptUnlessStored}
+use Rattle.service.proofs.Doing.{done, wrote}
+use Rattle.service.proofs.Leaving.{Leaves, step-leaves}
+use Rattle.service.proofs.Segments.{saved-there}
+
+-- ---- what is left there
+
+number-there : (w : Region) (x : Memories) (a n v : ℕ) → wrongSizes x ≡ false → there w x a n ≡ true → (t : ℕ) → t < n
+    → byteIn (store w x a n v) (cellOf w (a + t)) ≡ getD (bytesOf n v) t 0
+number-there w x a n v z all t l =
+    let e = length-bytesOf n v in
+    bytes-there w x a (bytesOf n v) (λ i h. all-held w x a n z all i (rw e at h)) t (rw e l)
+
+rdshr-left : {k : Machine} {y : Memories} {a : ℕ} {s : Step} → Completes k y Rdshr a s → (t : ℕ) → t < 4
+    → byteIn (stepped k y s .memory) (operandCell k a t) ≡ getD (bytesOf 4 (smhr (settingsOf k))) t 0
+unfolding operated smhrStored
+rdshr-left {k} {y} {a} c t l =
+    let d = done c in
+    ap (λ (o : Outcome). byteIn (o .memory) (operandCell k a t)) (d .outcome)
+    ∙ number-there (window k) y a 4 (smhr (settingsOf k)) (d .sizes) (d .there) t l
+
+pub left-there : LeftThere
+left-there k y c s (Stores.by-write {width} {a} {v} t l e h) =
+    let r = wrote k y width a v h in
+    rw (← e) (ap (λ (z : Memories). byteIn z (operandCell k a t)) (r .memory) ∙ number-there (window k) y a width v (r .sizes) (r .there) t l)
+left-there k y c s (Stores.by-save t l e h) = rw (← e) (saved-there h t l)
+left-there k y c s (Stores.by-rdshr t l e h) = rw (← e) (rdshr-left h t l)
+left-there k y c s (Stores.by-entry t l e by h) = rw (← e) (entry-header k y s h by .header t l)
+
+-- ---- nothing else changes a byte
+
+header-elsewhere : (x : Memories) (at : ℕ) (bs : List ℕ) (c : Cell) → ((t : ℕ) → t < length bs → Cell.InManagement (at + t) ≡ c → ⊥)
+    → byteIn (memories (x .main) (sets (x .management) at bs)) c ≡ byteIn x c
+header-elsewhere x at bs (Cell.InMain j) h = refl
+header-elsewhere x at bs (Cell.InManagement j) h = go (ltb j at) (leb (at + length bs) j) refl refl
+  where
+    go : (p q : Bool) → ltb j at ≡ p → leb (at + length bs) j ≡ q → getD (sets (x .management) at bs) j 0 ≡ getD (x .management) j 0
+    go true q e f = stored-below (x .management) bs at j (ltb-true j at e)
+    go false true e f = stored-above (x .management) bs at j (leb-true _ j f)
+    go false false e f =
+        let low = ltb-false j at e in
+        let high = leb-false (at + length bs) j f in
+        let there : at + (j - at) ≡ j = omega arith in
+        absurd (h (j - at) (omega arith) (ap Cell.InManagement there))
+
+kept : {k : Machine} {y z : Memories} {s : Step} (c : Cell) → (Stores k y c s → ⊥) → Leaves k y s z → byteIn z c ≡ byteIn y c
+unfolding headed
+kept c none Leaves.nothing = refl
+kept {k} {y} {z} {s} c none (Leaves.bytes a bs st) =
+    bytes-elsewhere (window k) y a bs c (λ t l e. none (subst (λ (d : Cell). Stores k y d s) e (st t l)))
+kept {k} {y} {z} {s} c none (Leaves.header v st) =
+    header-elsewhere y (placeOf k) (headerBytes v) c (λ t l e. none (subst (λ (d : Cell). Stores k y d s) e (st t (rw (header-long v) at l))))
+
+pub only-stored : OnlyStored
+only-stored k y ss c from to up within none =
+    let at : ℕ → Run = λ l. run k y (take l ss) in
+    over (λ l. byteIn (at l .memory) c) from to up
+    (λ l p q.
+    ap (λ (z : Memories). byteIn z c) (steps-in-turn k y ss .1 l (omega arith) .left .1)
+    ∙ kept c (none l p q) (step-leaves (at l .machine) (at l .memory) (getD ss l Wake)))
+
+pub kept-unless-stored : KeptUnlessStored
+unfolding run
+kept-unless-stored m x s ss place none =
+    let e = stepped m x s in
+    record {
+      place = place;
+      bytes = λ i l.
+          ap (λ (q : List Step). getD (serviced m x s q .memory .management) (placeOf m + i) 0) (sym (take-all (length ss) ss (omega arith)))
+          ∙ only-stored (e .stepped .machine) (e .memory) ss (Cell.InManagement (placeOf m + i)) 0 (length ss) (omega arith) (omega arith)
+          (λ q h b. none i q l b);
+    }

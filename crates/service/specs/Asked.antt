@@ -1,0 +1,124 @@
+-- How tight the statements are: the hypotheses ask for no more than 02 does, every entry has a service that meets them, no RSM matches two
+-- entries, and the claim leaves nothing open.
+use Prim.Native.Nat.{ℕ, _+_, _≤_, _<_}
+use mathlib.Core.Path.{_≡_}
+use mathlib.Core.Bool.{true, false}
+use mathlib.Core.List.{List, []}
+use lib.ListN.{length, getD, take, drop}
+use Rattle.memory.specs.Memory.{Memories, cellOf, byteIn}
+use Rattle.steps.specs.declared.Step.{Step}
+use Rattle.steps.specs.declared.Step.the-variants.{Reset, Opcode, Wake}
+use Rattle.steps.specs.Answers.{numberOf}
+use Rattle.steps.specs.Widths.{StepFits}
+use Rattle.settings.specs.Settings.{headerPlace}
+use Rattle.header.specs.Header.{wordIn, withEip}
+use Rattle.header.specs.Header.Word.{NextIp}
+use Rattle.segments.specs.declared.SegmentName.{SegmentName}
+use Rattle.opcodes.specs.declared.Operation.the-variants.{Save, Restore}
+use Rattle.opcodes.specs.Decode.{operationOf}
+use Rattle.machine.specs.declared.Machine.{Machine}
+use Rattle.machine.specs.Machines.{settingsOf, editionOf}
+use Rattle.machine.specs.Outcomes.{Outcome}
+use Rattle.machine.specs.Steps.{window, stepped}
+use Rattle.runs.specs.Runs.{Run, run}
+use Rattle.isolation.specs.Widths.{MachineFits}
+use Rattle.isolation.specs.Service.{answerTo, Entering, recorded}
+use Rattle.service.specs.NoMark.{serviced, servicedTo, answerAt, Matching, Service, HeaderKept, NoMark, Completes, SavedAndRestored, Untouched, PutBack}
+use Rattle.service.specs.Back.{PutBackByValue}
+
+-- ---- the service
+
+-- all that `Matching` asks for, of the run after entry
+abbrev pub MatchingAsked : Type 0
+MatchingAsked =
+    (m : Machine) (x : Memories) (s : Step) (ss : List Step) (rsm : Step)
+    → let e = stepped m x s in
+    let at : List Step → Run = λ l. run (e .stepped .machine) (e .memory) l in
+    numberOf (stepped (at ss .machine) (at ss .memory) rsm .stepped .answer) ≡ 12
+    → headerPlace (settingsOf (at ss .machine)) ≡ headerPlace (settingsOf m)
+    → ((k : ℕ) → k < length ss
+    → let r = at (take k ss) in
+    numberOf (stepped (r .machine) (r .memory) (getD ss k Wake) .stepped .answer) ≡ 11
+    → headerPlace (settingsOf (r .machine)) ≡ headerPlace (settingsOf m) → ⊥)
+    → Matching m x s ss rsm
+
+-- all that `Service` asks for besides
+abbrev pub ServiceAsked : Type 0
+ServiceAsked =
+    (m : Machine) (x : Memories) (s : Step) (ss : List Step) (rsm : Step)
+    → let e = stepped m x s in
+    numberOf (e .stepped .answer) ≡ 11
+    → ((k : ℕ) → k < length ss → run (e .stepped .machine) (e .memory) (take k ss) .machine .inside ≡ true)
+    → ((k : ℕ) → k < length ss → getD ss k Wake ≡ Reset → ⊥)
+    → ((k : ℕ) → k < length ss → Matching m x s (take k ss) (getD ss k Wake) → ⊥)
+    → Matching m x s ss rsm → Service m x s ss rsm
+
+-- RSM right after any entry, of either edition and by either way, is a service, and the header is kept
+abbrev pub EveryEntry : Type 0
+EveryEntry =
+    (m : Machine) (x : Memories) (s : Step) (modrm a next : ℕ) → MachineFits m → StepFits s → answerTo m x s ≡ 11
+    → Service m x s [] (Opcode 0xaa modrm a next) × HeaderKept m x s (serviced m x s [])
+
+-- An RSM that matches an entry matches none of the entries since: not the one by step number k, whose service has the steps after that.
+abbrev pub MatchesOne : Type 0
+MatchesOne =
+    (m : Machine) (x : Memories) (s : Step) (ss : List Step) (rsm : Step) (k : ℕ) → Matching m x s ss rsm → k < length ss → answerAt m x s ss k ≡ 11
+    → let r = servicedTo m x s ss k in
+    Matching (r .machine) (r .memory) (getD ss k Wake) (drop (k + 1) ss) rsm → ⊥
+
+-- ---- the registers
+
+abbrev pub HeaderKeptAsked : Type 0
+HeaderKeptAsked =
+    (m : Machine) (x : Memories) (s : Step) (r : Run) → headerPlace (settingsOf (r .machine)) ≡ headerPlace (settingsOf m)
+    → ((i : ℕ) → headerPlace (settingsOf m) ≤ i → i < headerPlace (settingsOf m) + 48
+    → getD (r .memory .management) i 0 ≡ getD (stepped m x s .memory .management) i 0)
+    → HeaderKept m x s r
+
+-- the claim settles all seven registers
+abbrev pub NoMarkDetermines : Type 0
+NoMarkDetermines =
+    (m : Machine) (e o : Outcome) → NoMark m e o
+    → (o .stepped .machine .registers ≡ withEip (m .registers) (wordIn (e .memory .management) (headerPlace (settingsOf m)) NextIp))
+    × (o .stepped .machine .halted ≡ false)
+
+-- and the recorded next IP is the one of the entry: EIP, the boundary's current address for a REP form, or SMINT's next address
+abbrev pub NextRecorded : Type 0
+NextRecorded =
+    (m : Machine) (x : Memories) (s : Step) → MachineFits m → StepFits s → answerTo m x s ≡ 11 → (by : Entering m s)
+    → wordIn (stepped m x s .memory .management) (headerPlace (settingsOf m)) NextIp ≡ recorded m by .next
+
+-- ---- the segment registers
+
+abbrev pub CompletesAsked : Type 0
+CompletesAsked =
+    (k : Machine) (y : Memories) (op modrm a next : ℕ) → numberOf (stepped k y (Opcode op modrm a next) .stepped .answer) ≡ 0
+    → Completes k y (operationOf (editionOf k) op modrm) a (Opcode op modrm a next)
+
+abbrev pub UntouchedAsked : Type 0
+UntouchedAsked =
+    (at : ℕ → Run) (ss : List Step) (n : SegmentName) (from to : ℕ)
+    → ((l : ℕ) → from ≤ l → l < to → getD ss l Wake ≡ Reset → ⊥)
+    → ((l c : ℕ) → from ≤ l → l < to → Completes (at l .machine) (at l .memory) (Restore n) c (getD ss l Wake) → ⊥)
+    → Untouched at ss n from to
+
+-- all that `PutBack` asks for, of ten bytes
+abbrev pub PutBackAsked : Type 0
+PutBackAsked =
+    (at : ℕ → Run) (ss : List Step) (n : SegmentName) (i j a b : ℕ)
+    → Untouched at ss n 0 i
+    → Completes (at i .machine) (at i .memory) (Save n) a (getD ss i Wake)
+    → i < j
+    → Completes (at j .machine) (at j .memory) (Restore n) b (getD ss j Wake)
+    → ((t : ℕ) → t < 10
+    → let c = cellOf (window (at i .machine)) (a + t) in
+    (cellOf (window (at j .machine)) (b + t) ≡ c) × (byteIn (at j .memory) c ≡ byteIn (at (i + 1) .memory) c))
+    → Untouched at ss n (j + 1) (length ss)
+    → PutBack at ss n i j a b
+
+-- a register that is put back by its steps is so by its values, after any entry
+abbrev pub ByValue : Type 0
+ByValue =
+    (m : Machine) (x : Memories) (s : Step) (ss : List Step) (n : SegmentName) (i j a b : ℕ) → answerTo m x s ≡ 11
+    → let at = servicedTo m x s ss in
+    PutBack at ss n i j a b → PutBackByValue m at ss n i j a b

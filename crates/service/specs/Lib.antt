@@ -1,0 +1,4 @@
+pub mod NoMark
+pub mod Back
+pub mod Stored
+pub mod Asked

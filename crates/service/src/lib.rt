@@ -1,0 +1,46 @@
+// Theorems about a whole service, from entry to RSM, and no code: specs/ has their statements, and proofs/ their proofs.
+ghost use Rattle.service.specs.NoMark.{LeavesNoMark};
+ghost use Rattle.service.specs.Back.{WordsBack, RegistersBack, SegmentsBack, OnlyRestored};
+ghost use Rattle.service.specs.Stored.{LeftThere, OnlyStored, KeptUnlessStored};
+ghost use Rattle.service.specs.Asked.{MatchingAsked, ServiceAsked, EveryEntry, MatchesOne, HeaderKeptAsked, NoMarkDetermines, NextRecorded, CompletesAsked, UntouchedAsked, PutBackAsked, ByValue};
+
+// These hold the gate to the theorems, since a function is proved only with all that it ensures.
+fn request_14()
+    ensures { λ r. ⌜ LeavesNoMark ⌝ }
+{}
+
+// The same with less asked.
+fn back()
+    ensures words { λ r. ⌜ WordsBack ⌝ }
+    ensures registers { λ r. ⌜ RegistersBack ⌝ }
+    ensures segments { λ r. ⌜ SegmentsBack ⌝ }
+    ensures restored { λ r. ⌜ OnlyRestored ⌝ }
+{}
+
+// What the steps and their answers say of the hypotheses about bytes.
+fn stored_to()
+    ensures left { λ r. ⌜ LeftThere ⌝ }
+    ensures stored { λ r. ⌜ OnlyStored ⌝ }
+    ensures kept { λ r. ⌜ KeptUnlessStored ⌝ }
+{}
+
+// What the hypotheses ask for, and what the claim settles.
+fn matching()
+    ensures asked { λ r. ⌜ MatchingAsked ⌝ }
+    ensures service { λ r. ⌜ ServiceAsked ⌝ }
+    ensures every { λ r. ⌜ EveryEntry ⌝ }
+    ensures one { λ r. ⌜ MatchesOne ⌝ }
+{}
+
+fn saved_registers()
+    ensures kept { λ r. ⌜ HeaderKeptAsked ⌝ }
+    ensures mark { λ r. ⌜ NoMarkDetermines ⌝ }
+    ensures next { λ r. ⌜ NextRecorded ⌝ }
+{}
+
+fn segment_registers()
+    ensures completes { λ r. ⌜ CompletesAsked ⌝ }
+    ensures untouched { λ r. ⌜ UntouchedAsked ⌝ }
+    ensures asked { λ r. ⌜ PutBackAsked ⌝ }
+    ensures value { λ r. ⌜ ByValue ⌝ }
+{}
