@@ -1,0 +1,4 @@
+pub mod Below
+pub mod Quick
+pub mod Computed
+pub mod Example
