@@ -55,23 +55,20 @@ module _ (P : Operation → Type 0) (e : Edition) (op : ℕ) (undefined : P Unde
 
 -- ---- RSM, and saving
 
+abbrev sort : Operation → ℕ
+sort (Save name) = 0
+sort (Restore name) = 1
+sort Rdshr = 2
+sort Wrshr = 3
+sort Smint = 4
+sort Rsm = 5
+sort Undefined = 6
+
 abbrev isRsm : Operation → Bool
-isRsm (Save name) = false
-isRsm (Restore name) = false
-isRsm Rdshr = false
-isRsm Wrshr = false
-isRsm Smint = false
-isRsm Rsm = true
-isRsm Undefined = false
+isRsm o = eqb (sort o) 5
 
 abbrev isSave : Operation → Bool
-isSave (Save name) = true
-isSave (Restore name) = false
-isSave Rdshr = false
-isSave Wrshr = false
-isSave Smint = false
-isSave Rsm = false
-isSave Undefined = false
+isSave o = eqb (sort o) 0
 
 pub resumed-by : ResumedBy
 resumed-by e op modrm d =
