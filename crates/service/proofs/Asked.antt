@@ -1,15 +1,24 @@
 -- The claim in 02's own words, and how tight the statements are. Assumes nothing.
 use mathlib.Core.Path.{_≡_, refl, sym, ap, _∙_}
-use mathlib.Core.List.{[]}
-use Prim.Native.Nat.{ℕ, _+_}
+use mathlib.Core.Bool.{Bool, true, false, _&&_, and-true, and-false}
+use mathlib.Core.List.{List, []}
+use Prim.Native.Nat.{ℕ, _+_, _<_}
 use native.Mathlib.Omega.{arith}
 use lib.ListN.{length, getD}
+use Rattle.fields.specs.Fields.{fieldAt}
+use Rattle.fields.proofs.Laws.{field-same}
 use Rattle.steps.specs.declared.Step.the-variants.{Opcode, Wake}
 use Rattle.settings.specs.Settings.{headerPlace}
 use Rattle.config.specs.declared.Config.{Config}
+use Rattle.nesting.specs.Nesting.{enhanced}
+use Rattle.header.specs.Header.{withEip}
 use Rattle.header.specs.Header.Word.{NextIp}
+use Rattle.segments.specs.declared.SegmentName.{SegmentName}
+use Rattle.segments.specs.declared.SegmentName.the-variants.{Es, Ss, Ds, Fs, Gs, Ldtr, Tr}
+use Rattle.segments.specs.Segments.{isCs}
 use Rattle.machine.specs.declared.Machine.{Machine}
-use Rattle.machine.specs.Machines.{settingsOf}
+use Rattle.machine.specs.Machines.{settingsOf, segmentIn}
+use Rattle.machine.specs.Outcomes.{Outcome}
 use Rattle.machine.specs.Steps.{stepped}
 use Rattle.runs.specs.Runs.{run}
 use Rattle.runs.proofs.Turns.{goes-on}
@@ -17,11 +26,12 @@ use Rattle.isolation.proofs.Nesting.{entered-kept}
 use Rattle.isolation.proofs.Pointers.{word-there}
 use Rattle.isolation.proofs.Service.{enters-as-stated, resumes-as-entered}
 use Rattle.levels.specs.Levels.{placeOf}
-use Rattle.service.specs.NoMark.{Completes, LeavesNoMark}
-use Rattle.service.specs.Asked.{MatchingAsked, ServiceAsked, EveryEntry, MatchesOne, HeaderKeptAsked, NoMarkDetermines, NextRecorded, CompletesAsked, UntouchedAsked, PutBackAsked, ByValue}
+use Rattle.service.specs.NoMark.{serviced, Completes, LeavesNoMark}
+use Rattle.service.specs.Back.{ModeBack}
+use Rattle.service.specs.Asked.{MatchingAsked, ServiceAsked, EveryEntry, MatchesOne, HeaderKeptAsked, NoMarkDetermines, NextRecorded, WordsByBytes, AllBack, CompletesAsked, UntouchedAsked, PutBackAsked, ByValue}
 use Rattle.service.proofs.Changing.{only-restored}
 use Rattle.service.proofs.Doing.{in-list}
-use Rattle.service.proofs.Registers.{registers-back}
+use Rattle.service.proofs.Registers.{words-back, registers-back}
 use Rattle.service.proofs.Segments.{restored-named, same-segments, segments-back}
 
 -- ---- the segment registers
@@ -108,3 +118,52 @@ no-mark-determines m e o h = (rw (← h .dr7, ← h .eflags, ← h .cr0, ← h .
 
 pub next-recorded : NextRecorded
 next-recorded m x s fits width entered by = word-there m x s fits width entered by NextIp
+
+-- four bytes of the header are a word
+word : (g h : List ℕ) (at from : ℕ) → ((i : ℕ) → i < 4 → getD g (at + (from + i)) 0 ≡ getD h (at + (from + i)) 0)
+    → fieldAt g (at + from) 4 ≡ fieldAt h (at + from) 4
+word g h at from same =
+    field-same g h (at + from) (at + from) 4 (λ i l. let e : at + from + i ≡ at + (from + i) = omega arith in rw e (same i l))
+
+pub words-by-bytes : WordsByBytes
+words-by-bytes m x s ss rsm fits width entered by resumed place =
+    let r = serviced m x s ss in
+    let g = r .memory .management in
+    let h = stepped m x s .memory .management in
+    let at = placeOf m in
+    let b = words-back m x s ss rsm fits width entered resumed place in (
+      λ w. b .dr7 (word g h at 0x2c w),
+      λ w. b .eflags (word g h at 0x28 w),
+      λ w. b .cr0 (word g h at 0x24 w),
+      λ w. b .eip (word g h at 0x1c w) ∙ next-recorded m x s fits width entered by,
+      λ w. (b .selector (word g h at 0x18 w), b .level (word g h at 0x18 w)),
+      λ w v. b .descriptor (word g h at 0x14 w) (word g h at 0x10 v),
+      λ w. (b .writable (word g h at 0x0c w), mode (r .machine) (stepped (r .machine) (r .memory) rsm) (b .mode (word g h at 0x0c w))),
+      b .halted,
+    )
+  where
+    mode : (k : Machine) (o : Outcome) → ModeBack m k o → o .stepped .machine .inside ≡ (enhanced (settingsOf k) && m .inside)
+    mode k o b = go (m .inside) refl
+      where
+        go : (v : Bool) → m .inside ≡ v → o .stepped .machine .inside ≡ (enhanced (settingsOf k) && v)
+        go true e = b .from-inside e .1 ∙ sym (and-true (enhanced (settingsOf k)))
+        go false e = b .from-outside e ∙ sym (and-false (enhanced (settingsOf k)))
+
+pub all-back : AllBack
+all-back m x s ss rsm i j a b fits width v header back by =
+    let r = serviced m x s ss in
+    let no-mark = leaves-no-mark m x s ss rsm fits width v in
+    let settled = no-mark-determines m (stepped m x s) (stepped (r .machine) (r .memory) rsm) (no-mark .0 header) in
+    let segment : (n : SegmentName) → isCs n ≡ false → segmentIn (stepped (r .machine) (r .memory) rsm .stepped .machine) n ≡ segmentIn m n
+    = λ n other. no-mark .1 n (i n) (j n) (a n) (b n) (back n other) in
+    let ds = segment Ds refl in
+    let es = segment Es refl in
+    let fs = segment Fs refl in
+    let gs = segment Gs refl in
+    let ss = segment Ss refl in
+    let ldtr = segment Ldtr refl in
+    let tr = segment Tr refl in (
+      settled .0 ∙ ap (withEip (m .registers)) (next-recorded m x s fits width (v .entered) by),
+      λ k. record { ds = ds k; es = es k; fs = fs k; gs = gs k; ss = ss k; ldtr = ldtr k; tr = tr k },
+      settled .1,
+    )

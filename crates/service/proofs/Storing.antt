@@ -32,8 +32,8 @@ use Rattle.runs.proofs.Stretch.{over}
 use Rattle.levels.specs.Levels.{placeOf}
 use Rattle.levels.proofs.Levels.{entry-header}
 use Rattle.service.specs.NoMark.{serviced, Completes, operandCell}
-use Rattle.service.specs.Stored.{Stores, LeftThere, OnlyStored, KeptUnlessStored}
-use Rattle.service.proofs.Doing.{done, wrote}
+use Rattle.service.specs.Stored.{Stores, LeftThere, OnlyStored, KeptUnlessStored, UnchangedUnlessStored}
+use Rattle.service.proofs.Doing.{done, in-list, wrote}
 use Rattle.service.proofs.Leaving.{Leaves, step-leaves}
 use Rattle.service.proofs.Segments.{saved-there}
 
@@ -103,4 +103,16 @@ kept-unless-stored m x s ss place none =
           ap (λ (q : List Step). getD (serviced m x s q .memory .management) (placeOf m + i) 0) (sym (take-all (length ss) ss (omega arith)))
           ∙ only-stored (e .stepped .machine) (e .memory) ss (Cell.InManagement (placeOf m + i)) 0 (length ss) (omega arith) (omega arith)
           (λ q h b. none i q l b);
+    }
+
+pub unchanged-unless-stored : UnchangedUnlessStored
+unchanged-unless-stored m x s ss n i j a b later saves restores same none =
+    let e = stepped m x s in
+    let within = in-list ss j restores in
+    record {
+      saves = saves;
+      restores = restores;
+      same = same;
+      unchanged = λ t h.
+          only-stored (e .stepped .machine) (e .memory) ss _ (i + 1) j (omega arith) (omega arith) (λ l p q. none t l h (omega arith) q);
     }

@@ -2,7 +2,7 @@
 -- entries, and the claim leaves nothing open.
 use Prim.Native.Nat.{ℕ, _+_, _≤_, _<_}
 use mathlib.Core.Path.{_≡_}
-use mathlib.Core.Bool.{true, false}
+use mathlib.Core.Bool.{true, false, _&&_}
 use mathlib.Core.List.{List, []}
 use lib.ListN.{length, getD, take, drop}
 use Rattle.memory.specs.Memory.{Memories, cellOf, byteIn}
@@ -11,9 +11,11 @@ use Rattle.steps.specs.declared.Step.the-variants.{Reset, Opcode, Wake}
 use Rattle.steps.specs.Answers.{numberOf}
 use Rattle.steps.specs.Widths.{StepFits}
 use Rattle.settings.specs.Settings.{headerPlace}
+use Rattle.nesting.specs.Nesting.{enhanced}
 use Rattle.header.specs.Header.{wordIn, withEip}
 use Rattle.header.specs.Header.Word.{NextIp}
 use Rattle.segments.specs.declared.SegmentName.{SegmentName}
+use Rattle.segments.specs.Segments.{isCs}
 use Rattle.opcodes.specs.declared.Operation.the-variants.{Save, Restore}
 use Rattle.opcodes.specs.Decode.{operationOf}
 use Rattle.machine.specs.declared.Machine.{Machine}
@@ -23,7 +25,7 @@ use Rattle.machine.specs.Steps.{window, stepped}
 use Rattle.runs.specs.Runs.{Run, run}
 use Rattle.isolation.specs.Widths.{MachineFits}
 use Rattle.isolation.specs.Service.{answerTo, Entering, recorded}
-use Rattle.service.specs.NoMark.{serviced, servicedTo, answerAt, Matching, Service, HeaderKept, NoMark, Completes, SavedAndRestored, Untouched, PutBack}
+use Rattle.service.specs.NoMark.{serviced, servicedTo, answerAfter, answerAt, Matching, Service, HeaderKept, NoMark, Completes, SavedAndRestored, Untouched, PutBack}
 use Rattle.service.specs.Back.{PutBackByValue}
 
 -- ---- the service
@@ -87,6 +89,37 @@ abbrev pub NextRecorded : Type 0
 NextRecorded =
     (m : Machine) (x : Memories) (s : Step) → MachineFits m → StepFits s → answerTo m x s ≡ 11 → (by : Entering m s)
     → wordIn (stepped m x s .memory .management) (headerPlace (settingsOf m)) NextIp ≡ recorded m by .next
+
+-- Each word by its four bytes, which begin so far above the header's place: what RSM loads from it is as before entry, whatever stands elsewhere.
+abbrev pub WordsByBytes : Type 0
+WordsByBytes =
+    (m : Machine) (x : Memories) (s : Step) (ss : List Step) (rsm : Step) → MachineFits m → StepFits s → answerTo m x s ≡ 11 → (by : Entering m s)
+    → let r = serviced m x s ss in
+    let o = stepped (r .machine) (r .memory) rsm .stepped .machine in
+    let same : ℕ → Type 0
+    = λ from. (i : ℕ) → i < 4
+    → getD (r .memory .management) (headerPlace (settingsOf m) + (from + i)) 0
+    ≡ getD (stepped m x s .memory .management) (headerPlace (settingsOf m) + (from + i)) 0 in
+    answerAfter r rsm ≡ 12 → headerPlace (settingsOf (r .machine)) ≡ headerPlace (settingsOf m)
+    → (same 0x2c → o .registers .dr7 ≡ m .registers .dr7)
+    × (same 0x28 → o .registers .eflags ≡ m .registers .eflags)
+    × (same 0x24 → o .registers .cr0 ≡ m .registers .cr0)
+    × (same 0x1c → o .registers .eip ≡ recorded m by .next)
+    × (same 0x18 → (o .registers .cs .selector ≡ m .registers .cs .selector) × (o .registers .level ≡ m .registers .level))
+    × (same 0x14 → same 0x10 → o .registers .cs .descriptor ≡ m .registers .cs .descriptor)
+    × (same 0x0c → (o .registers .writable ≡ m .registers .writable) × (o .inside ≡ (enhanced (settingsOf (r .machine)) && m .inside)))
+    × (o .halted ≡ false)
+
+-- So a service that keeps its header, and puts all seven segment registers back, leaves every register as it was, with next IP for EIP.
+abbrev pub AllBack : Type 0
+AllBack =
+    (m : Machine) (x : Memories) (s : Step) (ss : List Step) (rsm : Step) (i j a b : SegmentName → ℕ) → MachineFits m → StepFits s
+    → Service m x s ss rsm → HeaderKept m x s (serviced m x s ss)
+    → ((n : SegmentName) → isCs n ≡ false → PutBack (servicedTo m x s ss) ss n (i n) (j n) (a n) (b n))
+    → (by : Entering m s)
+    → let r = serviced m x s ss in
+    let o = stepped (r .machine) (r .memory) rsm .stepped .machine in
+    (o .registers ≡ withEip (m .registers) (recorded m by .next)) × (o .segments ≡ m .segments) × (o .halted ≡ false)
 
 -- ---- the segment registers
 

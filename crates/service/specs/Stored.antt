@@ -11,7 +11,7 @@ use Rattle.steps.specs.declared.Step.the-variants.{Write, Wake}
 use Rattle.settings.specs.Settings.{smhr}
 use Rattle.header.specs.Header.{headerLength}
 use Rattle.segments.specs.declared.SegmentName.{SegmentName}
-use Rattle.opcodes.specs.declared.Operation.the-variants.{Save, Rdshr}
+use Rattle.opcodes.specs.declared.Operation.the-variants.{Save, Restore, Rdshr}
 use Rattle.opcodes.specs.Decode.{operandSize}
 use Rattle.machine.specs.declared.Machine.{Machine}
 use Rattle.machine.specs.Machines.{settingsOf, segmentIn}
@@ -19,7 +19,7 @@ use Rattle.machine.specs.Steps.{stepped}
 use Rattle.runs.specs.Runs.{Run, run}
 use Rattle.isolation.specs.Service.{answerTo, Entering}
 use Rattle.levels.specs.Levels.{placeOf, headerOf}
-use Rattle.service.specs.NoMark.{serviced, servicedTo, HeaderKept, Completes, operandCell}
+use Rattle.service.specs.NoMark.{serviced, servicedTo, HeaderKept, Completes, operandCell, SavedAndRestored}
 
 -- a step that stores to a cell: a data write, a save of a segment register or RDSHR, each done and with the cell among its bytes, and an entry
 -- with the cell in its header
@@ -60,3 +60,16 @@ KeptUnlessStored =
     → ((t l : ℕ) → t < headerLength → l < length ss
     → Stores (at l .machine) (at l .memory) (Cell.InManagement (placeOf m + t)) (getD ss l Wake) → ⊥)
     → HeaderKept m x s r
+
+-- And a register is restored from unchanged bytes where no step between the save and the restore has stored to one of the ten.
+abbrev pub UnchangedUnlessStored : Type 0
+UnchangedUnlessStored =
+    (m : Machine) (x : Memories) (s : Step) (ss : List Step) (n : SegmentName) (i j a b : ℕ)
+    → let at = servicedTo m x s ss in
+    i < j
+    → Completes (at i .machine) (at i .memory) (Save n) a (getD ss i Wake)
+    → Completes (at j .machine) (at j .memory) (Restore n) b (getD ss j Wake)
+    → ((t : ℕ) → t < 10 → operandCell (at j .machine) b t ≡ operandCell (at i .machine) a t)
+    → ((t l : ℕ) → t < 10 → i < l → l < j
+    → Stores (at l .machine) (at l .memory) (operandCell (at i .machine) a t) (getD ss l Wake) → ⊥)
+    → SavedAndRestored at ss n i j a b

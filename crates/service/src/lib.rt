@@ -1,8 +1,8 @@
 // Theorems about a whole service, from entry to RSM, and no code: specs/ has their statements, and proofs/ their proofs.
 ghost use Rattle.service.specs.NoMark.{LeavesNoMark};
 ghost use Rattle.service.specs.Back.{WordsBack, RegistersBack, SegmentsBack, OnlyRestored};
-ghost use Rattle.service.specs.Stored.{LeftThere, OnlyStored, KeptUnlessStored};
-ghost use Rattle.service.specs.Asked.{MatchingAsked, ServiceAsked, EveryEntry, MatchesOne, HeaderKeptAsked, NoMarkDetermines, NextRecorded, CompletesAsked, UntouchedAsked, PutBackAsked, ByValue};
+ghost use Rattle.service.specs.Stored.{LeftThere, OnlyStored, KeptUnlessStored, UnchangedUnlessStored};
+ghost use Rattle.service.specs.Asked.{MatchingAsked, ServiceAsked, EveryEntry, MatchesOne, HeaderKeptAsked, NoMarkDetermines, NextRecorded, WordsByBytes, AllBack, CompletesAsked, UntouchedAsked, PutBackAsked, ByValue};
 
 // These hold the gate to the theorems, since a function is proved only with all that it ensures.
 fn request_14()
@@ -22,6 +22,7 @@ fn stored_to()
     ensures left { λ r. ⌜ LeftThere ⌝ }
     ensures stored { λ r. ⌜ OnlyStored ⌝ }
     ensures kept { λ r. ⌜ KeptUnlessStored ⌝ }
+    ensures unchanged { λ r. ⌜ UnchangedUnlessStored ⌝ }
 {}
 
 // What the hypotheses ask for, and what the claim settles.
@@ -36,6 +37,8 @@ fn saved_registers()
     ensures kept { λ r. ⌜ HeaderKeptAsked ⌝ }
     ensures mark { λ r. ⌜ NoMarkDetermines ⌝ }
     ensures next { λ r. ⌜ NextRecorded ⌝ }
+    ensures words { λ r. ⌜ WordsByBytes ⌝ }
+    ensures all { λ r. ⌜ AllBack ⌝ }
 {}
 
 fn segment_registers()
