@@ -55,7 +55,8 @@ module _ (P : Operation → Type 0) (e : Edition) (op : ℕ) (undefined : P Unde
 
 -- ---- RSM, and saving
 
-abbrev sort : Operation → ℕ
+-- what sort of operation it is
+abbrev pub sort : Operation → ℕ
 sort (Save name) = 0
 sort (Restore name) = 1
 sort Rdshr = 2

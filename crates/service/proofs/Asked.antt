@@ -5,34 +5,37 @@ use mathlib.Core.List.{List, []}
 use Prim.Native.Nat.{ℕ, _+_, _<_}
 use native.Mathlib.Omega.{arith}
 use lib.ListN.{length, getD}
+use lib.Seq.{take-all}
 use Rattle.fields.specs.Fields.{fieldAt}
 use Rattle.fields.proofs.Laws.{field-same}
-use Rattle.steps.specs.declared.Step.the-variants.{Opcode, Wake}
+use Rattle.memory.specs.Memory.{Memories}
+use Rattle.steps.specs.declared.Step.{Step}
+use Rattle.steps.specs.declared.Step.the-variants.{Opcode}
+use Rattle.steps.specs.Widths.{StepFits}
 use Rattle.settings.specs.Settings.{headerPlace}
 use Rattle.config.specs.declared.Config.{Config}
 use Rattle.nesting.specs.Nesting.{enhanced}
 use Rattle.header.specs.Header.{withEip}
 use Rattle.header.specs.Header.Word.{NextIp}
-use Rattle.segments.specs.declared.SegmentName.{SegmentName}
-use Rattle.segments.specs.declared.SegmentName.the-variants.{Es, Ss, Ds, Fs, Gs, Ldtr, Tr}
-use Rattle.segments.specs.Segments.{isCs}
 use Rattle.machine.specs.declared.Machine.{Machine}
 use Rattle.machine.specs.Machines.{settingsOf, segmentIn}
 use Rattle.machine.specs.Outcomes.{Outcome}
 use Rattle.machine.specs.Steps.{stepped}
 use Rattle.runs.specs.Runs.{run}
 use Rattle.runs.proofs.Turns.{goes-on}
+use Rattle.isolation.specs.Widths.{MachineFits}
+use Rattle.isolation.specs.Service.{Entering, recorded}
 use Rattle.isolation.proofs.Nesting.{entered-kept}
 use Rattle.isolation.proofs.Pointers.{word-there}
 use Rattle.isolation.proofs.Service.{enters-as-stated, resumes-as-entered}
 use Rattle.levels.specs.Levels.{placeOf}
-use Rattle.service.specs.NoMark.{serviced, Completes, LeavesNoMark}
+use Rattle.service.specs.NoMark.{serviced, Service, HeaderKept, Completes, LeavesNoMark}
 use Rattle.service.specs.Back.{ModeBack}
-use Rattle.service.specs.Asked.{MatchingAsked, ServiceAsked, EveryEntry, MatchesOne, HeaderKeptAsked, NoMarkDetermines, NextRecorded, WordsByBytes, AllBack, CompletesAsked, UntouchedAsked, PutBackAsked, ByValue}
+use Rattle.service.specs.Asked.{MatchingAsked, ServiceAsked, EveryEntry, MatchesOne, HeaderKeptAsked, NoMarkDetermines, NextRecorded, WordsByBytes, RegistersSettled, NoMarkAtOnce, CompletesAsked, UntouchedAsked, PutBackAsked, ByValueAsked, ByValue, SegmentsStay, AllSegments, AllBack}
 use Rattle.service.proofs.Changing.{only-restored}
 use Rattle.service.proofs.Doing.{in-list}
 use Rattle.service.proofs.Registers.{words-back, registers-back}
-use Rattle.service.proofs.Segments.{restored-named, same-segments, segments-back}
+use Rattle.service.proofs.Segments.{restored-named, same-segments, segments-back, seven}
 
 -- ---- the segment registers
 
@@ -119,6 +122,14 @@ no-mark-determines m e o h = (rw (← h .dr7, ← h .eflags, ← h .cr0, ← h .
 pub next-recorded : NextRecorded
 next-recorded m x s fits width entered by = word-there m x s fits width entered by NextIp
 
+-- the mode by one equation
+mode-is : (m k : Machine) (o : Outcome) → ModeBack m k o → o .stepped .machine .inside ≡ (enhanced (settingsOf k) && m .inside)
+mode-is m k o b = go (m .inside) refl
+  where
+    go : (v : Bool) → m .inside ≡ v → o .stepped .machine .inside ≡ (enhanced (settingsOf k) && v)
+    go true e = b .from-inside e .1 ∙ sym (and-true (enhanced (settingsOf k)))
+    go false e = b .from-outside e ∙ sym (and-false (enhanced (settingsOf k)))
+
 -- four bytes of the header are a word
 word : (g h : List ℕ) (at from : ℕ) → ((i : ℕ) → i < 4 → getD g (at + (from + i)) 0 ≡ getD h (at + (from + i)) 0)
     → fieldAt g (at + from) 4 ≡ fieldAt h (at + from) 4
@@ -138,32 +149,58 @@ words-by-bytes m x s ss rsm fits width entered by resumed place =
       λ w. b .eip (word g h at 0x1c w) ∙ next-recorded m x s fits width entered by,
       λ w. (b .selector (word g h at 0x18 w), b .level (word g h at 0x18 w)),
       λ w v. b .descriptor (word g h at 0x14 w) (word g h at 0x10 v),
-      λ w. (b .writable (word g h at 0x0c w), mode (r .machine) (stepped (r .machine) (r .memory) rsm) (b .mode (word g h at 0x0c w))),
+      λ w. (b .writable (word g h at 0x0c w), mode-is m (r .machine) (stepped (r .machine) (r .memory) rsm) (b .mode (word g h at 0x0c w))),
       b .halted,
     )
-  where
-    mode : (k : Machine) (o : Outcome) → ModeBack m k o → o .stepped .machine .inside ≡ (enhanced (settingsOf k) && m .inside)
-    mode k o b = go (m .inside) refl
-      where
-        go : (v : Bool) → m .inside ≡ v → o .stepped .machine .inside ≡ (enhanced (settingsOf k) && v)
-        go true e = b .from-inside e .1 ∙ sym (and-true (enhanced (settingsOf k)))
-        go false e = b .from-outside e ∙ sym (and-false (enhanced (settingsOf k)))
+
+pub registers-settled : RegistersSettled
+registers-settled m x s ss rsm fits width entered by resumed kept =
+    let r = serviced m x s ss in
+    let o = stepped (r .machine) (r .memory) rsm in
+    let b = registers-back m x s ss rsm fits width entered resumed kept in
+    let settled = no-mark-determines m (stepped m x s) o (b .0) in (
+      settled .0 ∙ ap (withEip (m .registers)) (next-recorded m x s fits width entered by),
+      settled .1,
+      mode-is m (r .machine) o (b .1),
+    )
+
+-- by the claim in 02's words
+by-claim : (m : Machine) (x : Memories) (s : Step) (ss : List Step) (rsm : Step) → MachineFits m → StepFits s → Service m x s ss rsm → (by : Entering m s)
+    → let r = serviced m x s ss in
+    let o = stepped (r .machine) (r .memory) rsm .stepped .machine in
+    HeaderKept m x s r → (o .registers ≡ withEip (m .registers) (recorded m by .next)) × (o .halted ≡ false)
+by-claim m x s ss rsm fits width v by kept =
+    let r = serviced m x s ss in
+    let settled = no-mark-determines m (stepped m x s) (stepped (r .machine) (r .memory) rsm) (leaves-no-mark m x s ss rsm fits width v .0 kept) in
+    (settled .0 ∙ ap (withEip (m .registers)) (next-recorded m x s fits width (v .entered) by), settled .1)
+
+pub no-mark-at-once : NoMarkAtOnce
+unfolding run
+no-mark-at-once m x s modrm a next fits width entered by =
+    let v = every-entry m x s modrm a next fits width entered in
+    by-claim m x s [] (Opcode 0xaa modrm a next) fits width (v .0) by (v .1)
+
+pub by-value-asked : ByValueAsked
+by-value-asked m at ss n i j a b bytes early last = record { bytes = bytes; early = early; last = last }
+
+pub segments-stay : SegmentsStay
+unfolding run
+segments-stay k y ss none =
+    seven (run k y ss .machine) k
+    (λ n other.
+    ap (λ (l : List Step). segmentIn (run k y l .machine) n) (sym (take-all (length ss) ss (omega arith)))
+    ∙ only-restored k y ss n 0 (length ss) other (omega arith) (omega arith) (none n))
+
+pub all-segments : AllSegments
+all-segments m x s ss rsm i j a b fits resumed back =
+    let r = serviced m x s ss in
+    seven (stepped (r .machine) (r .memory) rsm .stepped .machine) m
+    (λ n other. segments-back m x s ss rsm n (i n) (j n) (a n) (b n) fits resumed (back n other))
 
 pub all-back : AllBack
-all-back m x s ss rsm i j a b fits width v header back by =
+all-back m x s ss rsm i j a b fits width v back by =
     let r = serviced m x s ss in
-    let no-mark = leaves-no-mark m x s ss rsm fits width v in
-    let settled = no-mark-determines m (stepped m x s) (stepped (r .machine) (r .memory) rsm) (no-mark .0 header) in
-    let segment : (n : SegmentName) → isCs n ≡ false → segmentIn (stepped (r .machine) (r .memory) rsm .stepped .machine) n ≡ segmentIn m n
-    = λ n other. no-mark .1 n (i n) (j n) (a n) (b n) (back n other) in
-    let ds = segment Ds refl in
-    let es = segment Es refl in
-    let fs = segment Fs refl in
-    let gs = segment Gs refl in
-    let ss = segment Ss refl in
-    let ldtr = segment Ldtr refl in
-    let tr = segment Tr refl in (
-      settled .0 ∙ ap (withEip (m .registers)) (next-recorded m x s fits width (v .entered) by),
-      λ k. record { ds = ds k; es = es k; fs = fs k; gs = gs k; ss = ss k; ldtr = ldtr k; tr = tr k },
-      settled .1,
+    let no-mark = leaves-no-mark m x s ss rsm fits width v in (
+      seven (stepped (r .machine) (r .memory) rsm .stepped .machine) m (λ n other. no-mark .1 n (i n) (j n) (a n) (b n) (back n other)),
+      by-claim m x s ss rsm fits width v by,
     )

@@ -20,7 +20,7 @@ use Rattle.opcodes.specs.declared.Operation.the-variants.{Save, Restore, Rdshr,
 use Rattle.opcodes.specs.Decode.{operationOf, operandSize}
 use Rattle.machine.specs.declared.Machine.{Machine}
 use Rattle.machine.specs.declared.Stepped.{Stepped}
-use Rattle.machine.specs.Machines.{editionOf, segmentIn, withRegisters, withSegments, withSegment}
+use Rattle.machine.specs.Machines.{editionOf, segmentIn, withSegment}
 use Rattle.machine.specs.Outcomes.{Outcome, ends}
 use Rattle.machine.specs.Service.{enteredMachine, entry, taken, passed, boundaryStep, resume}
 use Rattle.machine.specs.Steps.{window, valid, operationOn, advanced, saved, restored, smhrStored, smhrLoaded, operated, withOperand, opcodeStep, performed, decided, stepped}

@@ -25,24 +25,25 @@ use Rattle.service.specs.NoMark.{Completes}
 
 -- ---- an opcode
 
--- an outcome of the operation o with its operand at a
-record Did (k : Machine) (y : Memories) (o : Operation) (a next : ℕ) (out : Outcome) : Type 0 where
-  sizes : wrongSizes y ≡ false
-  there : there (window k) y a (operandSize o) ≡ true
-  outcome : out ≡ operated k y o a next
+-- an outcome of the operation o with its operand at a, and some next address
+pub record Done (k : Machine) (y : Memories) (o : Operation) (a : ℕ) (out : Outcome) : Type 0 where
+  pub sizes : wrongSizes y ≡ false
+  pub there : there (window k) y a (operandSize o) ≡ true
+  pub next : ℕ
+  pub outcome : out ≡ operated k y o a next
 
 module _ (k : Machine) (y : Memories) (op modrm a next : ℕ) where
   abbrev o : Operation
   o = operationOf (editionOf k) op modrm
 
   abbrev IfDone : Outcome → Type 0
-  IfDone out = numberOf (out .stepped .answer) ≡ 0 → Did k y o a next out
+  IfDone out = numberOf (out .stepped .answer) ≡ 0 → Done k y o a out
 
   did-opcode : wrongSizes y ≡ false → IfDone (opcodeStep k y op modrm a next)
   unfolding opcodeStep operationOn withOperand operated allThere
   did-opcode z =
       either (λ (q : Operation). IfDone (withOperand k y q a next)) (valid k o)
-      (λ v. either IfDone (there (window k) y a (operandSize o)) (λ t h. record { sizes = z; there = t; outcome = refl }) (λ t h. absurd (omega arith)))
+      (λ v. either IfDone (there (window k) y a (operandSize o)) (λ t h. record { sizes = z; there = t; next = next; outcome = refl }) (λ t h. absurd (omega arith)))
       (λ v h. absurd (omega arith))
 
   did : IfDone (stepped k y (Opcode op modrm a next))
@@ -51,17 +52,9 @@ module _ (k : Machine) (y : Memories) (op modrm a next : ℕ) where
       by-verdict (k .halted) y (Opcode op modrm a next) (λ v. IfDone (decided k y (Opcode op modrm a next) v))
       (λ r h. absurd (omega arith)) (λ r h. absurd (omega arith)) (λ r h. absurd (omega arith)) (λ t. did-opcode (t .sizes))
 
--- what a completed operation has done, with some next address
-pub record Done (k : Machine) (y : Memories) (o : Operation) (a : ℕ) (out : Outcome) : Type 0 where
-  pub sizes : wrongSizes y ≡ false
-  pub there : there (window k) y a (operandSize o) ≡ true
-  pub next : ℕ
-  pub outcome : out ≡ operated k y o a next
-
 pub done : {k : Machine} {y : Memories} {o : Operation} {a : ℕ} {s : Step} → Completes k y o a s → Done k y o a (stepped k y s)
 done {k} {y} {o} {a} (Completes.completes {op} {modrm} {next} d h) =
-    let r = subst (λ (q : Operation). Did k y q a next (stepped k y (Opcode op modrm a next))) d (did k y op modrm a next h) in
-    record { sizes = r .sizes; there = r .there; next = next; outcome = r .outcome }
+    subst (λ (q : Operation). Done k y q a (stepped k y (Opcode op modrm a next))) d (did k y op modrm a next h)
 
 -- it is a step of its list, past which Wake stands
 pub opcode-kind : {k : Machine} {y : Memories} {o : Operation} {a : ℕ} {s : Step} → Completes k y o a s → kindOf s ≡ 7

@@ -47,18 +47,18 @@ module _ (k : Machine) (y : Memories) where
 
   entry-leaves : (s : Step) (v : Saved) (latched : Bool) → If s (entry k y v latched)
   unfolding entry
-  entry-leaves s v latched h = Leaves.header v (λ t l. Stores.by-entry t l refl (enters-as-stated k y s h .by) h)
+  entry-leaves s v latched h = Leaves.header v (λ t l. Stores.by-entry (record { byte = t; below = l; cell = refl }) (enters-as-stated k y s h .by) h)
 
   operated-leaves : (op modrm a next : ℕ) (o : Operation) → operationOf (editionOf k) op modrm ≡ o
       → If (Opcode op modrm a next) (operated k y o a next)
   unfolding operated saved smhrStored
   operated-leaves op modrm a next (Save n) d h =
       subst (Leaves k y (Opcode op modrm a next)) (sym (segment-bytes (window k) y a (segmentIn k n)))
-      (Leaves.bytes a (tenBytes (segmentIn k n)) (λ t l. Stores.by-save t (rw (ten-long (segmentIn k n)) at l) refl (Completes.completes d h)))
+      (Leaves.bytes a (tenBytes (segmentIn k n)) (λ t l. Stores.by-save (record { byte = t; below = rw (ten-long (segmentIn k n)) at l; cell = refl }) (Completes.completes d h)))
   operated-leaves op modrm a next (Restore n) d h = Leaves.nothing
   operated-leaves op modrm a next Rdshr d h =
       let v = smhr (settingsOf k) in
-      Leaves.bytes a (bytesOf 4 v) (λ t l. Stores.by-rdshr t (rw (length-bytesOf 4 v) at l) refl (Completes.completes d h))
+      Leaves.bytes a (bytesOf 4 v) (λ t l. Stores.by-rdshr (record { byte = t; below = rw (length-bytesOf 4 v) at l; cell = refl }) (Completes.completes d h))
   operated-leaves op modrm a next Wrshr d h = Leaves.nothing
   operated-leaves op modrm a next Smint d h = entry-leaves (Opcode op modrm a next) _ _ h
   operated-leaves op modrm a next Rsm d h = Leaves.nothing
@@ -81,7 +81,7 @@ module _ (k : Machine) (y : Memories) where
   performed-leaves (Write width a v) h =
       let s = Write width a v in
       either (λ (r : Reached). If s (ends (gives k (r .answer)) (r .memory))) (there (window k) y a width)
-      (λ t q. Leaves.bytes a (bytesOf width v) (λ t l. Stores.by-write t (rw (length-bytesOf width v) at l) refl q)) (λ t q. Leaves.nothing) h
+      (λ t q. Leaves.bytes a (bytesOf width v) (λ t l. Stores.by-write (record { byte = t; below = rw (length-bytesOf width v) at l; cell = refl }) q)) (λ t q. Leaves.nothing) h
   performed-leaves (PortRead port) h = Leaves.nothing
   performed-leaves (PortWrite port v) h = Leaves.nothing
   performed-leaves (Opcode op modrm a next) h = opcode-leaves op modrm a next h

@@ -3,12 +3,10 @@ use mathlib.Core.Path.{_≡_, refl, ap, _∙_}
 use mathlib.Core.Bool.{Bool, true, false, _&&_, and-true, and-false}
 use Prim.Native.Nat.{ℕ, _+_, _*_, _/_, _%_}
 use lib.Dec.{eqb}
-use Rattle.memory.specs.Memory.{Memories}
-use Rattle.memory.specs.declared.Segment.{Segment}
 use Rattle.steps.specs.declared.Step.{Step}
 use Rattle.nesting.specs.Nesting.{enhanced, staysInside}
 use Rattle.header.specs.declared.Registers.{Registers}
-use Rattle.header.specs.Header.{Word, wordIn, resumed, levelOf}
+use Rattle.header.specs.Header.{wordIn, resumed, levelOf}
 use Rattle.header.specs.Header.Word.{Dr7, Eflags, Cr0, NextIp, CsLevel, DescriptorHigh, DescriptorLow, Flags}
 use Rattle.header.proofs.ReadBack.{word-same}
 use Rattle.machine.specs.declared.Machine.{Machine}

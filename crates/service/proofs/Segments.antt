@@ -1,8 +1,8 @@
 -- The segment registers that a service saves and puts back. Assumes nothing.
-use mathlib.Core.Path.{_≡_, sym, ap, subst, _∙_}
+use mathlib.Core.Path.{_≡_, refl, sym, ap, subst, _∙_}
 use mathlib.Core.Bool.{false}
 use mathlib.Core.List.{List}
-use Prim.Native.Nat.{ℕ, _+_, _<_}
+use Prim.Native.Nat.{ℕ, _<_}
 use native.Mathlib.Omega.{arith}
 use lib.ListN.{length, getD}
 use lib.Seq.{take-all}
@@ -12,6 +12,7 @@ use Rattle.memory.proofs.Cells.{tenBytes, ten-long, segment-bytes, bytes-there,
 use Rattle.steps.specs.declared.Step.{Step}
 use Rattle.refusals.proofs.Laws.{all-held}
 use Rattle.segments.specs.declared.SegmentName.{SegmentName}
+use Rattle.segments.specs.declared.SegmentName.the-variants.{Es, Ss, Ds, Fs, Gs, Ldtr, Tr}
 use Rattle.segments.specs.declared.Segments.{Segments}
 use Rattle.segments.specs.Segments.{isCs, segmentNamed}
 use Rattle.segments.proofs.Names.{by-name, without-cs, named-there}
@@ -70,6 +71,18 @@ segment-fits m f =
 pub same-segments : (k l : Machine) (n : SegmentName) → isCs n ≡ false → l .segments ≡ k .segments → segmentIn l n ≡ segmentIn k n
 same-segments k l n other e =
     ap (λ (s : Segments). segmentNamed s (l .registers .cs) n) e ∙ without-cs (k .segments) (l .registers .cs) (k .registers .cs) n other
+
+-- the seven
+pub seven : (k m : Machine) → ((n : SegmentName) → isCs n ≡ false → segmentIn k n ≡ segmentIn m n) → k .segments ≡ m .segments
+seven k m h =
+    let ds = h Ds refl in
+    let es = h Es refl in
+    let fs = h Fs refl in
+    let gs = h Gs refl in
+    let ss = h Ss refl in
+    let ldtr = h Ldtr refl in
+    let tr = h Tr refl in
+    λ i. record { ds = ds i; es = es i; fs = fs i; gs = gs i; ss = ss i; ldtr = ldtr i; tr = tr i }
 
 -- ---- the theorem
 

@@ -15,25 +15,31 @@ use Rattle.fields.proofs.Storing.{stored-below, stored-above}
 use Rattle.memory.specs.Memory.{Memories, memories, Cell, cellOf, byteIn, store, there}
 use Rattle.memory.proofs.Cells.{bytes-elsewhere, bytes-there}
 use Rattle.steps.specs.declared.Step.{Step}
-use Rattle.steps.specs.declared.Step.the-variants.{Wake}
+use Rattle.steps.specs.declared.Step.the-variants.{Write, Opcode, Wake}
+use Rattle.steps.specs.Steps.{kindOf}
 use Rattle.refusals.specs.Refusals.{wrongSizes}
 use Rattle.refusals.proofs.Laws.{all-held}
 use Rattle.settings.specs.Settings.{smhr}
 use Rattle.header.specs.Header.{headerBytes, headed}
 use Rattle.header.proofs.ReadBack.{header-long}
-use Rattle.opcodes.specs.declared.Operation.the-variants.{Rdshr}
+use Rattle.segments.specs.declared.SegmentName.{SegmentName}
+use Rattle.opcodes.specs.declared.Operation.{Operation}
+use Rattle.opcodes.specs.declared.Operation.the-variants.{Save, Restore, Rdshr, Wrshr}
+use Rattle.opcodes.proofs.Bytes.{sort}
+use Rattle.opcodes.specs.Decode.{operationOf, operandSize}
 use Rattle.machine.specs.declared.Machine.{Machine}
-use Rattle.machine.specs.Machines.{settingsOf}
+use Rattle.machine.specs.Machines.{settingsOf, editionOf}
 use Rattle.machine.specs.Outcomes.{Outcome}
 use Rattle.machine.specs.Steps.{window, smhrStored, operated, stepped}
 use Rattle.runs.specs.Runs.{Run, run}
 use Rattle.runs.proofs.Turns.{steps-in-turn}
 use Rattle.runs.proofs.Stretch.{over}
+use Rattle.isolation.specs.Service.{answerTo, Entering}
 use Rattle.levels.specs.Levels.{placeOf}
 use Rattle.levels.proofs.Levels.{entry-header}
-use Rattle.service.specs.NoMark.{serviced, Completes, operandCell}
-use Rattle.service.specs.Stored.{Stores, LeftThere, OnlyStored, KeptUnlessStored, UnchangedUnlessStored}
-use Rattle.service.proofs.Doing.{done, in-list, wrote}
+use Rattle.service.specs.NoMark.{serviced, servicedTo, Completes, operandCell}
+use Rattle.service.specs.Stored.{Among, InHeader, Stores, LeftThere, StoresAsListed, OnlyStored, KeptUnlessStored, KeptWhereQuiet, UnchangedUnlessStored}
+use Rattle.service.proofs.Doing.{done, opcode-kind, in-list, wrote}
 use Rattle.service.proofs.Leaving.{Leaves, step-leaves}
 use Rattle.service.proofs.Segments.{saved-there}
 
@@ -54,12 +60,65 @@ rdshr-left {k} {y} {a} c t l =
     ∙ number-there (window k) y a 4 (smhr (settingsOf k)) (d .sizes) (d .there) t l
 
 pub left-there : LeftThere
-left-there k y c s (Stores.by-write {width} {a} {v} t l e h) =
+left-there k y c s (Stores.by-write {width} {a} {v} t h) =
     let r = wrote k y width a v h in
-    rw (← e) (ap (λ (z : Memories). byteIn z (operandCell k a t)) (r .memory) ∙ number-there (window k) y a width v (r .sizes) (r .there) t l)
-left-there k y c s (Stores.by-save t l e h) = rw (← e) (saved-there h t l)
-left-there k y c s (Stores.by-rdshr t l e h) = rw (← e) (rdshr-left h t l)
-left-there k y c s (Stores.by-entry t l e by h) = rw (← e) (entry-header k y s h by .header t l)
+    rw (← t .cell)
+    (ap (λ (z : Memories). byteIn z (operandCell k a (t .byte))) (r .memory) ∙ number-there (window k) y a width v (r .sizes) (r .there) (t .byte) (t .below))
+left-there k y c s (Stores.by-save t h) = rw (← t .cell) (saved-there h (t .byte) (t .below))
+left-there k y c s (Stores.by-rdshr t h) = rw (← t .cell) (rdshr-left h (t .byte) (t .below))
+left-there k y c s (Stores.by-entry t by h) = rw (← t .cell) (entry-header k y s h by .header (t .byte) (t .below))
+
+-- ---- what stores, by the kind of the record
+
+done-zero : {k : Machine} {y : Memories} {o : Operation} {a : ℕ} {s : Step} → Completes k y o a s → answerTo k y s ≡ 0
+done-zero (Completes.completes d h) = h
+
+-- an entry is by a boundary or an opcode
+entering-kind : {k : Machine} {s : Step} → Entering k s → 6 < kindOf s
+entering-kind (Entering.at-boundary on may asked) = omega arith
+entering-kind (Entering.by-smint d v) = omega arith
+
+module _ (k : Machine) (y : Memories) (c : Cell) where
+  -- an opcode that completes an operation which isn't a restore or WRSHR
+  completed : (o : Operation) (op modrm a b next : ℕ) → (sort o ≡ 1 → ⊥) → (sort o ≡ 3 → ⊥) → Among k a (operandSize o) c
+      → Completes k y o a (Opcode op modrm b next)
+      → let q = operationOf (editionOf k) op modrm in
+      (answerTo k y (Opcode op modrm b next) ≡ 0) × Among k b (operandSize q) c × ((n : SegmentName) → q ≡ Restore n → ⊥) × (q ≡ Wrshr → ⊥)
+  completed o op modrm a b next r w t (Completes.completes d h) =
+      (h, rw d t, λ n e. r (ap sort (sym d ∙ e)), λ e. w (ap sort (sym d ∙ e)))
+
+  by-writing : (width a v : ℕ) → Stores k y c (Write width a v) → (answerTo k y (Write width a v) ≡ 0) × Among k a width c
+  by-writing width a v (Stores.by-write t h) = (h, t)
+  by-writing width a v (Stores.by-save t h) = let z : _≡_ {A = ℕ} 4 7 = opcode-kind h in absurd (omega (arith, z))
+  by-writing width a v (Stores.by-rdshr t h) = let z : _≡_ {A = ℕ} 4 7 = opcode-kind h in absurd (omega (arith, z))
+  by-writing width a v (Stores.by-entry t by h) = let z : 6 < 4 = entering-kind by in absurd (omega (arith, z))
+
+  by-opcode : (op modrm a next : ℕ)
+      → let s = Opcode op modrm a next in
+      let o = operationOf (editionOf k) op modrm in
+      Stores k y c s → (answerTo k y s ≡ 11 → ⊥)
+      → (answerTo k y s ≡ 0) × Among k a (operandSize o) c × ((n : SegmentName) → o ≡ Restore n → ⊥) × (o ≡ Wrshr → ⊥)
+  by-opcode op modrm a next (Stores.by-save {n = n} {a = b} t h) none =
+      completed (Save n) op modrm b a next (λ e. omega (arith, e)) (λ e. omega (arith, e)) t h
+  by-opcode op modrm a next (Stores.by-rdshr {a = b} t h) none =
+      completed Rdshr op modrm b a next (λ e. omega (arith, e)) (λ e. omega (arith, e)) t h
+  by-opcode op modrm a next (Stores.by-entry t by h) none = absurd (none h)
+
+  by-entering : (s : Step) → Stores k y c s → answerTo k y s ≡ 11 → InHeader k c
+  by-entering s (Stores.by-write t h) e = absurd (omega (arith, h, e))
+  by-entering s (Stores.by-save t h) e = let z = done-zero h in absurd (omega (arith, z, e))
+  by-entering s (Stores.by-rdshr t h) e = let z = done-zero h in absurd (omega (arith, z, e))
+  by-entering s (Stores.by-entry t by h) e = t
+
+  by-other : (s : Step) → (kindOf s ≡ 4 → ⊥) → (kindOf s ≡ 7 → ⊥) → Stores k y c s → answerTo k y s ≡ 11
+  by-other s write opcode (Stores.by-write t h) = absurd (write refl)
+  by-other s write opcode (Stores.by-save t h) = absurd (opcode (opcode-kind h))
+  by-other s write opcode (Stores.by-rdshr t h) = absurd (opcode (opcode-kind h))
+  by-other s write opcode (Stores.by-entry t by h) = h
+
+pub stores-as-listed : StoresAsListed
+stores-as-listed k y c =
+    record { write = by-writing k y c; opcode = by-opcode k y c; entry = by-entering k y c; other = by-other k y c }
 
 -- ---- nothing else changes a byte
 
@@ -104,6 +163,14 @@ kept-unless-stored m x s ss place none =
           ∙ only-stored (e .stepped .machine) (e .memory) ss (Cell.InManagement (placeOf m + i)) 0 (length ss) (omega arith) (omega arith)
           (λ q h b. none i q l b);
     }
+
+pub kept-where-quiet : KeptWhereQuiet
+kept-where-quiet m x s ss place quiet =
+    let at = servicedTo m x s ss in
+    kept-unless-stored m x s ss place
+    (λ t l h k q.
+    let z = quiet l k in
+    z .2 (by-other (at l .machine) (at l .memory) (Cell.InManagement (placeOf m + t)) (getD ss l Wake) (z .0) (z .1) q))
 
 pub unchanged-unless-stored : UnchangedUnlessStored
 unchanged-unless-stored m x s ss n i j a b later saves restores same none =

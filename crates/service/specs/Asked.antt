@@ -19,7 +19,7 @@ use Rattle.segments.specs.Segments.{isCs}
 use Rattle.opcodes.specs.declared.Operation.the-variants.{Save, Restore}
 use Rattle.opcodes.specs.Decode.{operationOf}
 use Rattle.machine.specs.declared.Machine.{Machine}
-use Rattle.machine.specs.Machines.{settingsOf, editionOf}
+use Rattle.machine.specs.Machines.{settingsOf, editionOf, segmentIn}
 use Rattle.machine.specs.Outcomes.{Outcome}
 use Rattle.machine.specs.Steps.{window, stepped}
 use Rattle.runs.specs.Runs.{Run, run}
@@ -110,16 +110,24 @@ WordsByBytes =
     × (same 0x0c → (o .registers .writable ≡ m .registers .writable) × (o .inside ≡ (enhanced (settingsOf (r .machine)) && m .inside)))
     × (o .halted ≡ false)
 
--- So a service that keeps its header, and puts all seven segment registers back, leaves every register as it was, with next IP for EIP.
-abbrev pub AllBack : Type 0
-AllBack =
-    (m : Machine) (x : Memories) (s : Step) (ss : List Step) (rsm : Step) (i j a b : SegmentName → ℕ) → MachineFits m → StepFits s
-    → Service m x s ss rsm → HeaderKept m x s (serviced m x s ss)
-    → ((n : SegmentName) → isCs n ≡ false → PutBack (servicedTo m x s ss) ss n (i n) (j n) (a n) (b n))
-    → (by : Entering m s)
+-- All of them, and the mode.
+abbrev pub RegistersSettled : Type 0
+RegistersSettled =
+    (m : Machine) (x : Memories) (s : Step) (ss : List Step) (rsm : Step) → MachineFits m → StepFits s → answerTo m x s ≡ 11 → (by : Entering m s)
     → let r = serviced m x s ss in
     let o = stepped (r .machine) (r .memory) rsm .stepped .machine in
-    (o .registers ≡ withEip (m .registers) (recorded m by .next)) × (o .segments ≡ m .segments) × (o .halted ≡ false)
+    answerAfter r rsm ≡ 12 → HeaderKept m x s r
+    → (o .registers ≡ withEip (m .registers) (recorded m by .next))
+    × (o .halted ≡ false)
+    × (o .inside ≡ (enhanced (settingsOf (r .machine)) && m .inside))
+
+-- RSM right after any entry leaves no mark (demand 2 has it, too: `ResumesAsEntered` of isolation)
+abbrev pub NoMarkAtOnce : Type 0
+NoMarkAtOnce =
+    (m : Machine) (x : Memories) (s : Step) (modrm a next : ℕ) → MachineFits m → StepFits s → answerTo m x s ≡ 11 → (by : Entering m s)
+    → let e = stepped m x s in
+    let o = stepped (e .stepped .machine) (e .memory) (Opcode 0xaa modrm a next) .stepped .machine in
+    (o .registers ≡ withEip (m .registers) (recorded m by .next)) × (o .halted ≡ false)
 
 -- ---- the segment registers
 
@@ -149,9 +157,46 @@ PutBackAsked =
     → Untouched at ss n (j + 1) (length ss)
     → PutBack at ss n i j a b
 
+-- all that `PutBackByValue` asks for
+abbrev pub ByValueAsked : Type 0
+ByValueAsked =
+    (m : Machine) (at : ℕ → Run) (ss : List Step) (n : SegmentName) (i j a b : ℕ) → SavedAndRestored at ss n i j a b
+    → segmentIn (at i .machine) n ≡ segmentIn m n → segmentIn (at (length ss) .machine) n ≡ segmentIn (at (j + 1) .machine) n
+    → PutBackByValue m at ss n i j a b
+
 -- a register that is put back by its steps is so by its values, after any entry
 abbrev pub ByValue : Type 0
 ByValue =
     (m : Machine) (x : Memories) (s : Step) (ss : List Step) (n : SegmentName) (i j a b : ℕ) → answerTo m x s ≡ 11
     → let at = servicedTo m x s ss in
     PutBack at ss n i j a b → PutBackByValue m at ss n i j a b
+
+-- Without a reset, and without a restore that is done, all seven segment registers stay over any run.
+abbrev pub SegmentsStay : Type 0
+SegmentsStay =
+    (k : Machine) (y : Memories) (ss : List Step)
+    → ((n : SegmentName) → Untouched (λ l. run k y (take l ss)) ss n 0 (length ss))
+    → run k y ss .machine .segments ≡ k .segments
+
+-- If all seven are put back, by their values, all seven are as before entry: nothing is asked of the header, nor that s has entered.
+abbrev pub AllSegments : Type 0
+AllSegments =
+    (m : Machine) (x : Memories) (s : Step) (ss : List Step) (rsm : Step) (i j a b : SegmentName → ℕ) → MachineFits m
+    → let r = serviced m x s ss in
+    answerAfter r rsm ≡ 12
+    → ((n : SegmentName) → isCs n ≡ false → PutBackByValue m (servicedTo m x s ss) ss n (i n) (j n) (a n) (b n))
+    → stepped (r .machine) (r .memory) rsm .stepped .machine .segments ≡ m .segments
+
+-- ---- the claim as a whole
+
+-- A service that puts all seven segment registers back leaves them as they were, and if it keeps its header all others, with next IP for EIP.
+abbrev pub AllBack : Type 0
+AllBack =
+    (m : Machine) (x : Memories) (s : Step) (ss : List Step) (rsm : Step) (i j a b : SegmentName → ℕ) → MachineFits m → StepFits s
+    → Service m x s ss rsm
+    → ((n : SegmentName) → isCs n ≡ false → PutBack (servicedTo m x s ss) ss n (i n) (j n) (a n) (b n))
+    → (by : Entering m s)
+    → let r = serviced m x s ss in
+    let o = stepped (r .machine) (r .memory) rsm .stepped .machine in
+    (o .segments ≡ m .segments)
+    × (HeaderKept m x s r → (o .registers ≡ withEip (m .registers) (recorded m by .next)) × (o .halted ≡ false))

@@ -26,7 +26,7 @@ use Rattle.service.specs.NoMark.{serviced, servicedTo, answerAfter, Head
 -- ---- the registers that entry saves
 
 -- The mode after RSM: m is before entry, k is before RSM, and o is after it. After an entry from outside the machine is outside. After one from
--- inside it stays inside exactly if service nests when RSM runs: it did at entry, and does unless a step has cleared SMM_MODE since.
+-- inside it stays inside exactly if service nests when RSM runs: it did at entry, and doesn't where SMM_MODE is 0 by then.
 pub record ModeBack (m k : Machine) (o : Outcome) : Type 0 where
   pub from-outside : m .inside ≡ false → o .stepped .machine .inside ≡ false
   pub from-inside : m .inside ≡ true → (enhanced (settingsOf m) ≡ true) × (o .stepped .machine .inside ≡ enhanced (settingsOf k))

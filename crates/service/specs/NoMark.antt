@@ -43,7 +43,8 @@ answerAt m x s ss k = answerAfter (servicedTo m x s ss k) (getD ss k Wake)
 -- ---- the service
 
 -- "The matching RSM is the one that reads this entry's header": it is answered "resumed", it reads at the place in management memory that this
--- entry wrote to, and no entry among the steps ss before it was at that place, so that the header there is this entry's.
+-- entry wrote to, and no entry among the steps ss before it was at that place, so that the header there is this entry's, or what the steps have made
+-- of it.
 pub record Matching (m : Machine) (x : Memories) (s : Step) (ss : List Step) (rsm : Step) : Type 0 where
   pub resumed : answerAfter (serviced m x s ss) rsm ≡ 12
   pub place : placeOf (serviced m x s ss .machine) ≡ placeOf m
@@ -88,7 +89,8 @@ pub data Completes (k : Machine) (y : Memories) (o : Operation) (a : ℕ) : Step
 abbrev pub operandCell : Machine → ℕ → ℕ → Cell
 operandCell k a t = cellOf (window k) (a + t)
 
--- Step number i saves the segment register n, at a, and step number j restores it, at b. `at` is what so many of the steps ss have left.
+-- Step number i saves the segment register n, at a, and step number j restores it, at b. `at` is what so many of the steps ss have left. (Nothing
+-- restores CS, so that n is one of the seven others.)
 pub record SavedAndRestored (at : ℕ → Run) (ss : List Step) (n : SegmentName) (i j a b : ℕ) : Type 0 where
   pub saves : Completes (at i .machine) (at i .memory) (Save n) a (getD ss i Wake)
   pub restores : Completes (at j .machine) (at j .memory) (Restore n) b (getD ss j Wake)

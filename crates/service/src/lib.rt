@@ -1,8 +1,8 @@
 // Theorems about a whole service, from entry to RSM, and no code: specs/ has their statements, and proofs/ their proofs.
 ghost use Rattle.service.specs.NoMark.{LeavesNoMark};
 ghost use Rattle.service.specs.Back.{WordsBack, RegistersBack, SegmentsBack, OnlyRestored};
-ghost use Rattle.service.specs.Stored.{LeftThere, OnlyStored, KeptUnlessStored, UnchangedUnlessStored};
-ghost use Rattle.service.specs.Asked.{MatchingAsked, ServiceAsked, EveryEntry, MatchesOne, HeaderKeptAsked, NoMarkDetermines, NextRecorded, WordsByBytes, AllBack, CompletesAsked, UntouchedAsked, PutBackAsked, ByValue};
+ghost use Rattle.service.specs.Stored.{LeftThere, StoresAsListed, OnlyStored, KeptUnlessStored, KeptWhereQuiet, UnchangedUnlessStored};
+ghost use Rattle.service.specs.Asked.{MatchingAsked, ServiceAsked, EveryEntry, MatchesOne, HeaderKeptAsked, NoMarkDetermines, NextRecorded, WordsByBytes, RegistersSettled, NoMarkAtOnce, CompletesAsked, UntouchedAsked, PutBackAsked, ByValueAsked, ByValue, SegmentsStay, AllSegments, AllBack};
 
 // These hold the gate to the theorems, since a function is proved only with all that it ensures.
 fn request_14()
@@ -20,8 +20,10 @@ fn back()
 // What the steps and their answers say of the hypotheses about bytes.
 fn stored_to()
     ensures left { λ r. ⌜ LeftThere ⌝ }
+    ensures listed { λ r. ⌜ StoresAsListed ⌝ }
     ensures stored { λ r. ⌜ OnlyStored ⌝ }
     ensures kept { λ r. ⌜ KeptUnlessStored ⌝ }
+    ensures quiet { λ r. ⌜ KeptWhereQuiet ⌝ }
     ensures unchanged { λ r. ⌜ UnchangedUnlessStored ⌝ }
 {}
 
@@ -38,12 +40,17 @@ fn saved_registers()
     ensures mark { λ r. ⌜ NoMarkDetermines ⌝ }
     ensures next { λ r. ⌜ NextRecorded ⌝ }
     ensures words { λ r. ⌜ WordsByBytes ⌝ }
-    ensures all { λ r. ⌜ AllBack ⌝ }
+    ensures settled { λ r. ⌜ RegistersSettled ⌝ }
+    ensures once { λ r. ⌜ NoMarkAtOnce ⌝ }
 {}
 
 fn segment_registers()
     ensures completes { λ r. ⌜ CompletesAsked ⌝ }
     ensures untouched { λ r. ⌜ UntouchedAsked ⌝ }
     ensures asked { λ r. ⌜ PutBackAsked ⌝ }
-    ensures value { λ r. ⌜ ByValue ⌝ }
+    ensures value { λ r. ⌜ ByValueAsked ⌝ }
+    ensures steps { λ r. ⌜ ByValue ⌝ }
+    ensures stay { λ r. ⌜ SegmentsStay ⌝ }
+    ensures segments { λ r. ⌜ AllSegments ⌝ }
+    ensures all { λ r. ⌜ AllBack ⌝ }
 {}

@@ -1,6 +1,6 @@
 -- All that is computed of the examples, without the test of the sizes. Assumes nothing.
 use mathlib.Core.Path.{_≡_, refl}
-use mathlib.Core.Bool.{Bool, true, false, _&&_}
+use mathlib.Core.Bool.{Bool, true, false}
 use mathlib.Core.List.{List, [], _∷_, map, flatMap}
 use Prim.Native.Nat.{ℕ, _+_}
 use lib.ListN.{getD, replicate, take}
@@ -29,7 +29,7 @@ use Rattle.machine.specs.Steps.{window, permitted, valid, operationOn, saved, r
 use Rattle.runs.specs.Runs.{Run, answersOf}
 use Rattle.levels.specs.Levels.{placeOf}
 use Rattle.service_example.specs.Example.{before, start, smi, rsm, steps, answers, pastInner}
-use Rattle.service_example.specs.Needed.{elsewhere, rerun, handler, cleared, save, restore, change, anew}
+use Rattle.service_example.specs.Needed.{elsewhere, rerun, between, handler, cleared, save, restore, change, anew}
 use Rattle.service_example.proofs.Below.{agree}
 use Rattle.service_example.proofs.Quick.{quickly, quick, fast}
 
@@ -62,13 +62,17 @@ second = record { base = 0x2000; code = 1 }
 
 -- ---- what is computed
 
--- of a service whose RSM reads at the entry's place: the answers, that every step begins inside, and that the header is kept
-pub record Serves (m : Machine) (ss : List Step) (expected : List ℕ) (n : ℕ) : Type 0 where
+-- of a run after entry whose RSM reads at the entry's place: the answers, and that the header is kept
+pub record Returns (m : Machine) (ss : List Step) (expected : List ℕ) : Type 0 where
   pub answers : numbers (at m ss) ≡ expected
-  pub inside : insides (at m ss) ≡ replicate n true
   pub resumed : numberOf (by-rsm m ss .stepped .answer) ≡ 12
   pub place : placeOf (at m ss .machine) ≡ placeOf m
   pub header : alike (at m ss .memory .management) (quickly m start smi .memory .management) (placeOf m) ≡ true
+
+-- where all n steps begin inside
+pub record Serves (m : Machine) (ss : List Step) (expected : List ℕ) (n : ℕ) : Type 0 where
+  pub returns : Returns m ss expected
+  pub inside : insides (at m ss) ≡ replicate n true
 
 -- of one whose DS is looked at
 pub record Ends (ss : List Step) (expected : List ℕ) (selector : ℕ) : Type 0 where
@@ -111,9 +115,10 @@ pub record Computed : Type 0 where
   pub rerun-place : placeOf (at before rerun .machine) ≡ placeOf before
   pub rerun-eip : by-rsm before rerun .stepped .machine .registers .eip ≡ 0x1000
   pub rerun-words : Unmoved Dr7 × Unmoved Eflags × Unmoved Cr0 × Unmoved CsLevel × Unmoved DescriptorHigh × Unmoved DescriptorLow × Unmoved Flags
+  pub between : Returns before between (0 ∷ 0 ∷ 0 ∷ 0 ∷ 0 ∷ 0 ∷ 0 ∷ 0 ∷ 0 ∷ 0 ∷ 0 ∷ 11 ∷ 0 ∷ 0 ∷ [])
   -- the mode
   pub handler-place : placeOf handler ≡ 0x40
-  pub stays : Serves handler [] [] 0
+  pub stays : Returns handler [] []
   pub leaves : Serves handler cleared (0 ∷ 0 ∷ []) 2
   pub nests : enhanced (at handler [] .machine .config .settings) ≡ true
   pub nests-not : enhanced (at handler cleared .machine .config .settings) ≡ false
@@ -122,7 +127,7 @@ pub record Computed : Type 0 where
   pub same : Ends (save ∷ change ∷ []) (0 ∷ 0 ∷ []) 0
   pub unchanged : Ends (save ∷ Write 1 0x1088 0 ∷ restore ∷ []) (0 ∷ 0 ∷ 0 ∷ []) 0
   pub last : Ends (save ∷ restore ∷ change ∷ []) (0 ∷ 0 ∷ 0 ∷ []) 0
-  pub reset : Ends (save ∷ restore ∷ anew) (0 ∷ 0 ∷ 0 ∷ 0 ∷ 0 ∷ 0 ∷ 0 ∷ 0 ∷ 0 ∷ 0 ∷ 0 ∷ 0 ∷ 0 ∷ 11 ∷ []) 0
+  pub reset : Ends (save ∷ restore ∷ anew 0x70) (0 ∷ 0 ∷ 0 ∷ 0 ∷ 0 ∷ 0 ∷ 0 ∷ 0 ∷ 0 ∷ 0 ∷ 0 ∷ 0 ∷ 0 ∷ 11 ∷ []) 0
   pub all : Ends (save ∷ change ∷ restore ∷ []) (0 ∷ 0 ∷ 0 ∷ []) 0x23
 
 pub computed : Computed
@@ -131,8 +136,8 @@ computed =
     record {
       entered = refl;
       handler-entered = refl;
-      long = record { answers = refl; inside = refl; resumed = refl; place = refl; header = refl };
-      past = record { answers = refl; inside = refl; resumed = refl; place = refl; header = refl };
+      long = record { returns = record { answers = refl; resumed = refl; place = refl; header = refl }; inside = refl };
+      past = record { returns = record { answers = refl; resumed = refl; place = refl; header = refl }; inside = refl };
       place = refl;
       place-18 = refl;
       place-19 = refl;
@@ -154,9 +159,10 @@ computed =
       rerun-place = refl;
       rerun-eip = refl;
       rerun-words = (refl, refl, refl, refl, refl, refl, refl);
+      between = record { answers = refl; resumed = refl; place = refl; header = refl };
       handler-place = refl;
-      stays = record { answers = refl; inside = refl; resumed = refl; place = refl; header = refl };
-      leaves = record { answers = refl; inside = refl; resumed = refl; place = refl; header = refl };
+      stays = record { answers = refl; resumed = refl; place = refl; header = refl };
+      leaves = record { returns = record { answers = refl; resumed = refl; place = refl; header = refl }; inside = refl };
       nests = refl;
       nests-not = refl;
       early = record { answers = refl; resumed = refl; ds = refl };

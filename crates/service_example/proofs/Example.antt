@@ -5,13 +5,12 @@ use mathlib.Core.List.{List, [], _∷_, map}
 use Prim.Native.Nat.{ℕ, _+_, _-_, _≤_, _<_}
 use native.Mathlib.Omega.{arith}
 use lib.Dec.{eqb}
-use lib.ListN.{length, getD, take, replicate, length-replicate, getD-replicate}
+use lib.ListN.{length, getD, take, getD-replicate}
 use borrow.Author.Tests.{eqb-true, eqb-false, eq-eqb, not-true}
 use Rattle.region.specs.declared.Region.{Region}
 use Rattle.region.specs.Region.{sizeOf, usable, within}
 use Rattle.fields.proofs.Cases.{unlike}
 use Rattle.memory.specs.Memory.{Memories, byteIn, cellOf}
-use Rattle.steps.specs.declared.Answer.{Answer}
 use Rattle.steps.specs.declared.Answer.the-variants.{Done}
 use Rattle.steps.specs.declared.Step.{Step}
 use Rattle.steps.specs.declared.Step.the-variants.{Reset, Registers, Read, Write, PortRead, PortWrite, Opcode, Boundary, MalformedBoundary, Halt, Wake}
@@ -23,7 +22,7 @@ use Rattle.refusals.specs.Refusals.{wrongSizes}
 use Rattle.settings.specs.declared.Edition.{Edition}
 use Rattle.settings.specs.declared.Edition.the-variants.{Mii}
 use Rattle.nesting.specs.Nesting.{enhanced}
-use Rattle.header.specs.Header.{headerLength, Word, wordIn, withEip}
+use Rattle.header.specs.Header.{Word, wordIn, withEip}
 use Rattle.header.specs.Header.Word.{NextIp, Dr7, Eflags, Cr0, CsLevel, DescriptorHigh, DescriptorLow, Flags}
 use Rattle.segments.specs.declared.SegmentName.{SegmentName}
 use Rattle.segments.specs.declared.SegmentName.the-variants.{Es, Cs, Ss, Ds, Fs, Gs, Ldtr, Tr}
@@ -42,14 +41,13 @@ use Rattle.isolation.specs.Service.{answerTo}
 use Rattle.isolation.proofs.Edition.{edition-stays}
 use Rattle.isolation.proofs.Examples.{locked-fits}
 use Rattle.levels.specs.Levels.{placeOf}
-use Rattle.service.specs.NoMark.{serviced, servicedTo, answerAfter, answerAt, Matching, Service, HeaderKept, Completes, operandCell, Untouched, PutBack}
-use Rattle.service.proofs.Asked.{leaves-no-mark, no-mark-determines}
-use Rattle.service.proofs.Doing.{opcode-kind}
+use Rattle.service.specs.NoMark.{serviced, servicedTo, answerAfter, answerAt, Service, HeaderKept, Completes, operandCell, Untouched, PutBack}
+use Rattle.service.proofs.Asked.{leaves-no-mark, no-mark-determines, matching-asked, service-asked, untouched-asked, put-back-asked}
 use Rattle.service.proofs.Registers.{words-back, registers-back}
 use Rattle.service_example.specs.Example.{before, start, smi, rsm, steps, answers, after, ServiceExample, pastInner, PastInnerExample}
-use Rattle.service_example.specs.Needed.{Resumes, elsewhere, rerun, HeaderExample, handler, cleared, ModeExample, Lost, SegmentsExample}
+use Rattle.service_example.specs.Needed.{Resumes, elsewhere, rerun, between, HeaderExample, handler, cleared, ModeExample, SegmentsExample}
 use Rattle.service_example.proofs.Below.{every, each, agree-each, Each, below, getD-map}
-use Rattle.service_example.proofs.Computed.{at, by-rsm, numbers, insides, kept, first, second, Serves, Ends, Unmoved, computed}
+use Rattle.service_example.proofs.Computed.{at, by-rsm, numbers, insides, kept, first, second, Returns, Serves, Ends, Unmoved, computed}
 use Rattle.service_example.proofs.Quick.{quickly, quickly-is, fast-is, then-is}
 
 whole : wrongSizes start ≡ false
@@ -79,8 +77,8 @@ module _ (m : Machine) where
     place-is p e = ap (λ (r : Run). placeOf (r .machine)) run-is ∙ e
 
 -- the header is kept
-header-kept : (m : Machine) (ss : List Step) (expected : List ℕ) (n : ℕ) → Serves m ss expected n → HeaderKept m start smi (serviced m start smi ss)
-header-kept m ss expected n c =
+header-kept : (m : Machine) (ss : List Step) (expected : List ℕ) → Returns m ss expected → HeaderKept m start smi (serviced m start smi ss)
+header-kept m ss expected c =
     let r = at m ss in
     record {
       place = place-is m ss (placeOf m) (c .place);
@@ -109,7 +107,7 @@ module _ (m : Machine) (ss : List Step) (expected : List ℕ) (n : ℕ) (c : Ser
       sym (ap (λ (v : Event). numberOf (v .answer)) (turn k l .noted))
       ∙ sym (ap numberOf (getD-map (λ (v : Event). v .answer) (r .events) (event Wake false Done) k))
       ∙ sym (getD-map numberOf answers Done k)
-      ∙ ap (λ (l : List ℕ). getD l k 0) (ap numbers (run-is m ss) ∙ c .answers)
+      ∙ ap (λ (l : List ℕ). getD l k 0) (ap numbers (run-is m ss) ∙ c .returns .answers)
 
   inside-at : (k : ℕ) → k < n → servicedTo m start smi ss k .machine .inside ≡ true
   inside-at k l =
@@ -127,28 +125,23 @@ module _ (m : Machine) (ss : List Step) (expected : List ℕ) (n : ℕ) (c : Ser
       rest true b e t = t
       rest false b e t = unlike e refl
 
-  -- so the one entry, by step number p, and the one RSM, number q, are at other places
-  service : (p q : ℕ) → answerTo m start smi ≡ 11 → every n (λ k. not (eqb (kindOf (getD ss k Wake)) 1)) ≡ true
-      → every n (λ k. not (eqb (getD expected k 0) 11) || eqb k p) ≡ true
-      → every n (λ k. not (eqb (getD expected k 0) 12) || eqb k q) ≡ true
-      → (placeOf (at m (take p ss) .machine) ≡ placeOf m → ⊥) → (placeOf (at m (take q ss) .machine) ≡ placeOf m → ⊥)
+  -- the entries are at other places, and so is each RSM
+  service : answerTo m start smi ≡ 11 → every n (λ k. not (eqb (kindOf (getD ss k Wake)) 1)) ≡ true
+      → ((k : ℕ) → k < n → answerAt m start smi ss k ≡ 11 → placeOf (servicedTo m start smi ss k .machine) ≡ placeOf m → ⊥)
+      → ((k : ℕ) → k < n → answerAt m start smi ss k ≡ 12 → placeOf (servicedTo m start smi ss k .machine) ≡ placeOf m → ⊥)
       → Service m start smi ss rsm
-  service p q entered resets entries rsms away off = record {
-    entered = entered;
-    inside = λ k l. inside-at k (rw long at l);
-    no-reset = λ k l h. eqb-false (kindOf (getD ss k Wake)) 1 (not-true _ (each n _ resets k (rw long at l))) (ap kindOf h);
-    until = λ k l h. elsewhere q off k (only 12 q k rsms (rw long at l) (h .resumed)) (h .place);
-    matching = record {
-      resumed = resumes m ss expected (c .answers) (c .resumed) .1;
-      place = place-is m ss (placeOf m) (c .place);
-      own = λ k l h. elsewhere p away k (only 11 p k entries (rw long at l) h);
-    };
-  }
-    where
-      elsewhere : (p : ℕ) → (placeOf (at m (take p ss) .machine) ≡ placeOf m → ⊥)
-          → (k : ℕ) → k ≡ p → placeOf (servicedTo m start smi ss k .machine) ≡ placeOf m → ⊥
-      elsewhere p away k e h =
-          away (sym (place-is m (take p ss) _ refl) ∙ ap (λ (k : ℕ). placeOf (servicedTo m start smi ss k .machine)) (sym e) ∙ h)
+  service entered resets entries rsms =
+      service-asked m start smi ss rsm entered (λ k l. inside-at k (rw long at l))
+      (λ k l h. eqb-false (kindOf (getD ss k Wake)) 1 (not-true _ (each n _ resets k (rw long at l))) (ap kindOf h))
+      (λ k l h. rsms k (rw long at l) (h .resumed) (h .place))
+      (matching-asked m start smi ss rsm (resumes m ss expected (c .returns .answers) (c .returns .resumed) .1)
+      (place-is m ss (placeOf m) (c .returns .place)) (λ k l. entries k (rw long at l)))
+
+-- the place of step number p is another, and so is that of any k which is p
+elsewhere-at : (m : Machine) (ss : List Step) (p : ℕ) → (placeOf (at m (take p ss) .machine) ≡ placeOf m → ⊥)
+    → (k : ℕ) → k ≡ p → placeOf (servicedTo m start smi ss k .machine) ≡ placeOf m → ⊥
+elsewhere-at m ss p away k e h =
+    away (sym (place-is m (take p ss) _ refl) ∙ ap (λ (k : ℕ). placeOf (servicedTo m start smi ss k .machine)) (sym e) ∙ h)
 
 -- ---- which steps change a segment register
 
@@ -198,25 +191,27 @@ edition-at k h =
     ∙ edition-stays _ _ (getD steps l Wake))
     ∙ edition-stays before start smi
 
--- by one test of each step
-untouched : (n : SegmentName) (from d : ℕ) → from + d ≤ 28
-    → every d (λ i. let s = getD steps (from + i) Wake in not (eqb (kindOf s) 1) && not (eqb (restoring (asked Mii s)) (isName n))) ≡ true
-    → Untouched (servicedTo before start smi steps) steps n from (from + d)
-untouched n from d within test l h k =
-    let e : from + (l - from) ≡ l = omega arith in
-    let t = rw e at (each d _ test (l - from) (omega arith)) in
-    let s = getD steps l Wake in
-    let both = and-eq-true-iff _ _ .0 t in (
-      λ q. eqb-false (kindOf s) 1 (not-true _ (both .0)) (ap kindOf q),
-      λ c q.
-          eqb-false (restoring (asked Mii s)) (isName n) (not-true _ (both .1))
-          (ap (λ (v : Edition). restoring (asked v s)) (sym (edition-at l (omega arith))) ∙ ap restoring (asked-of q)),
-    )
+-- step number k is no reset, and doesn't restore n
+abbrev passes : SegmentName → ℕ → Bool
+passes n k = let s = getD steps k Wake in not (eqb (kindOf s) 1) && not (eqb (restoring (asked Mii s)) (isName n))
 
-untouched-tests :
-    (every 7 (λ i. let s = getD steps (21 + i) Wake in not (eqb (kindOf s) 1) && not (eqb (restoring (asked Mii s)) (isName Ds))) ≡ true)
-    × (every 1 (λ i. let s = getD steps (0 + i) Wake in not (eqb (kindOf s) 1) && not (eqb (restoring (asked Mii s)) (isName Es))) ≡ true)
-    × (every 4 (λ i. let s = getD steps (24 + i) Wake in not (eqb (kindOf s) 1) && not (eqb (restoring (asked Mii s)) (isName Es))) ≡ true)
+untouched : (n : SegmentName) (from d : ℕ) → from + d ≤ 28 → every d (λ i. passes n (from + i)) ≡ true
+    → Untouched (servicedTo before start smi steps) steps n from (from + d)
+untouched n from d within test =
+    untouched-asked (servicedTo before start smi steps) steps n from (from + d)
+    (λ l h k q. eqb-false (kindOf (getD steps l Wake)) 1 (not-true _ (both l h k .0)) (ap kindOf q))
+    (λ l c h k q.
+    let s = getD steps l Wake in
+    eqb-false (restoring (asked Mii s)) (isName n) (not-true _ (both l h k .1))
+    (ap (λ (v : Edition). restoring (asked v s)) (sym (edition-at l (omega arith))) ∙ ap restoring (asked-of q)))
+  where
+    both : (l : ℕ) → from ≤ l → l < from + d
+        → (not (eqb (kindOf (getD steps l Wake)) 1) ≡ true) × (not (eqb (restoring (asked Mii (getD steps l Wake))) (isName n)) ≡ true)
+    both l h k =
+        let e : from + (l - from) ≡ l = omega arith in
+        and-eq-true-iff _ _ .0 (rw e at (each d (λ i. passes n (from + i)) test (l - from) (omega arith)))
+
+untouched-tests : (every 7 (λ i. passes Ds (21 + i)) ≡ true) × (every 1 (λ i. passes Es (0 + i)) ≡ true) × (every 4 (λ i. passes Es (24 + i)) ≡ true)
 unfolding operationOf grouped dataSegment
 untouched-tests = (refl, refl, refl)
 
@@ -246,23 +241,18 @@ module _ (n : SegmentName) (i j a b : ℕ) (w v : Region)
       → Completes (servicedTo before start smi steps j .machine) (servicedTo before start smi steps j .memory) (Restore n) b (getD steps j Wake)
       → i < j → Untouched (servicedTo before start smi steps) steps n 0 i → Untouched (servicedTo before start smi steps) steps n (j + 1) 28
       → PutBack (servicedTo before start smi steps) steps n i j a b
-  put-back cells bytes saves restores later early last = record {
-    bytes = record {
-      saves = saves;
-      restores = restores;
-      same = λ t l. cell-j t ∙ below (λ t. cellOf v (b + t) ≡ cellOf w (a + t)) 10 cells t l ∙ sym (cell-i t);
-      unchanged = λ t l.
-          ap (byteIn (servicedTo before start smi steps j .memory)) (cell-i t)
-          ∙ ap (λ (r : Run). byteIn (r .memory) (cellOf w (a + t))) (run-is before (take j steps))
-          ∙ agree-each (λ t. byteIn (at before (take j steps) .memory) (cellOf w (a + t)))
-          (λ t. byteIn (at before (take (i + 1) steps) .memory) (cellOf w (a + t))) 10 bytes t l
-          ∙ ap (λ (r : Run). byteIn (r .memory) (cellOf w (a + t))) (sym (run-is before (take (i + 1) steps)))
-          ∙ ap (byteIn (servicedTo before start smi steps (i + 1) .memory)) (sym (cell-i t));
-    };
-    early = early;
-    later = later;
-    last = last;
-  }
+  put-back cells bytes saves restores later early last =
+      put-back-asked (servicedTo before start smi steps) steps n i j a b early saves later restores
+      (λ t l. (
+        cell-j t ∙ below (λ t. cellOf v (b + t) ≡ cellOf w (a + t)) 10 cells t l ∙ sym (cell-i t),
+        ap (byteIn (servicedTo before start smi steps j .memory)) (cell-i t)
+            ∙ ap (λ (r : Run). byteIn (r .memory) (cellOf w (a + t))) (run-is before (take j steps))
+            ∙ agree-each (λ t. byteIn (at before (take j steps) .memory) (cellOf w (a + t)))
+            (λ t. byteIn (at before (take (i + 1) steps) .memory) (cellOf w (a + t))) 10 bytes t l
+            ∙ ap (λ (r : Run). byteIn (r .memory) (cellOf w (a + t))) (sym (run-is before (take (i + 1) steps)))
+            ∙ ap (byteIn (servicedTo before start smi steps (i + 1) .memory)) (sym (cell-i t)),
+      ))
+      last
 
 -- ---- the service
 
@@ -312,14 +302,16 @@ away p e h = let q = computed .place in omega (arith, e, h, q)
 served : Service before start smi steps rsm
 served =
     let c = computed in
-    service before steps answers 28 (c .long) refl 18 19 (enters before 11 (c .entered)) refl refl refl (away _ (c .place-18)) (away _ (c .place-19))
+    service before steps answers 28 (c .long) refl (enters before 11 (c .entered)) refl
+    (λ k l h. elsewhere-at before steps 18 (away _ (c .place-18)) k (only before steps answers 28 (c .long) refl 11 18 k refl l h))
+    (λ k l h. elsewhere-at before steps 19 (away _ (c .place-19)) k (only before steps answers 28 (c .long) refl 12 19 k refl l h))
 
 -- RSM after a service that keeps the header leaves no mark in the registers of m, where next IP is EIP
-registers-same : (m : Machine) (ss : List Step) (expected : List ℕ) (n : ℕ) → MachineFits m → answerTo m start smi ≡ 11 → Serves m ss expected n
+registers-same : (m : Machine) (ss : List Step) (expected : List ℕ) → MachineFits m → answerTo m start smi ≡ 11 → Returns m ss expected
     → wordIn (quickly m start smi .memory .management) (placeOf m) NextIp ≡ m .registers .eip
     → after m ss .registers ≡ m .registers
-registers-same m ss expected n fits entered c next =
-    let mark = registers-back m start smi ss rsm fits smi-fits entered (resumes m ss expected (c .answers) (c .resumed) .1) (header-kept m ss expected n c) .0 in
+registers-same m ss expected fits entered c next =
+    let mark = registers-back m start smi ss rsm fits smi-fits entered (resumes m ss expected (c .answers) (c .resumed) .1) (header-kept m ss expected c) .0 in
     no-mark-determines m (stepped m start smi) _ mark .0
     ∙ ap (withEip (m .registers)) (ap (λ (o : Outcome). wordIn (o .memory .management) (placeOf m) NextIp) (quickly-is m start smi whole) ∙ next)
 
@@ -360,18 +352,18 @@ before-next = ap (λ (p : ℕ). wordIn (quickly before start smi .memory .manage
 pub service-example : ServiceExample
 service-example =
     let c = computed in
-    let header = header-kept before steps answers 28 (c .long) in
+    let header = header-kept before steps answers (c .long .returns) in
     let no-mark = leaves-no-mark before start smi steps rsm before-fits smi-fits served in
     let back = registers-back before start smi steps rsm before-fits smi-fits (served .entered) (served .matching .resumed) header in
     record {
       machine = before-fits;
       step = smi-fits;
       service = served;
-      answered = resumes before steps answers (c .long .answers) (c .long .resumed) .0;
+      answered = resumes before steps answers (c .long .returns .answers) (c .long .returns .resumed) .0;
       header = header;
       ds = ds-back;
       es = es-back;
-      same = registers-same before steps answers 28 before-fits (served .entered) (c .long) before-next;
+      same = registers-same before steps answers before-fits (served .entered) (c .long .returns) before-next;
       same-ds = no-mark .1 Ds 0 20 0x0ffb 0x0ffb ds-back;
       same-es = no-mark .1 Es 1 23 0x1080 0x2080 es-back;
       awake = no-mark .0 header .halted;
@@ -385,13 +377,16 @@ past-inner-example =
     let c = computed in
     let expected : List ℕ = 0 ∷ 0 ∷ 0 ∷ 0 ∷ 11 ∷ 0 ∷ 0 ∷ [] in
     let entered = enters before 11 (c .entered) in
-    let header = header-kept before pastInner expected 7 (c .past) in
-    let back = resumes before pastInner expected (c .past .answers) (c .past .resumed) in
+    let header = header-kept before pastInner expected (c .past .returns) in
+    let back = resumes before pastInner expected (c .past .returns .answers) (c .past .returns .resumed) in
     record {
-      service = service before pastInner expected 7 (c .past) refl 4 4 entered refl refl refl (away _ (c .past-4)) (away _ (c .past-4));
+      service =
+          service before pastInner expected 7 (c .past) refl entered refl
+          (λ k l h. elsewhere-at before pastInner 4 (away _ (c .past-4)) k (only before pastInner expected 7 (c .past) refl 11 4 k refl l h))
+          (λ k l h. let z = only before pastInner expected 7 (c .past) refl 12 7 k refl l h in absurd (omega arith));
       answered = back .0;
       header = header;
-      same = registers-same before pastInner expected 7 before-fits entered (c .past) before-next;
+      same = registers-same before pastInner expected before-fits entered (c .past .returns) before-next;
       outside = registers-back before start smi pastInner rsm before-fits smi-fits entered (back .1) header .1 .from-outside refl;
     }
 
@@ -438,6 +433,10 @@ header-example =
           writable = writable i;
         },
       );
+      kept = (
+        resumes before between _ (c .between .answers) (c .between .resumed),
+        registers-same before between _ before-fits entered (c .between) before-next,
+      );
     }
 
 handler-fits : MachineFits handler
@@ -451,24 +450,27 @@ mode-example =
     let entered = enters handler 11 (c .handler-entered) in
     let next = ap (λ (p : ℕ). wordIn (quickly handler start smi .memory .management) p NextIp) (c .handler-place) ∙ c .handler-next in
     let stays = resumes handler [] [] (c .stays .answers) (c .stays .resumed) in
-    let leaves = resumes handler cleared (0 ∷ 0 ∷ []) (c .leaves .answers) (c .leaves .resumed) in
+    let leaves = resumes handler cleared (0 ∷ 0 ∷ []) (c .leaves .returns .answers) (c .leaves .returns .resumed) in
     let nests : (ss : List Step) (b : Bool) → enhanced (at handler ss .machine .config .settings) ≡ b
     → enhanced (serviced handler start smi ss .machine .config .settings) ≡ b
     = λ ss b h. ap (λ (r : Run). enhanced (r .machine .config .settings)) (run-is handler ss) ∙ h in
-    let back = registers-back handler start smi [] rsm handler-fits smi-fits entered (stays .1) (header-kept handler [] [] 0 (c .stays)) .1 in
-    let out = registers-back handler start smi cleared rsm handler-fits smi-fits entered (leaves .1) (header-kept handler cleared (0 ∷ 0 ∷ []) 2 (c .leaves)) .1 in
+    let back = registers-back handler start smi [] rsm handler-fits smi-fits entered (stays .1) (header-kept handler [] [] (c .stays)) .1 in
+    let out = registers-back handler start smi cleared rsm handler-fits smi-fits entered (leaves .1) (header-kept handler cleared (0 ∷ 0 ∷ []) (c .leaves .returns)) .1 in
     record {
       machine = handler-fits;
-      entered = entered;
+      service =
+          service handler cleared (0 ∷ 0 ∷ []) 2 (c .leaves) refl entered refl
+          (λ k l h. let z = only handler cleared (0 ∷ 0 ∷ []) 2 (c .leaves) refl 11 2 k refl l h in absurd (omega arith))
+          (λ k l h. let z = only handler cleared (0 ∷ 0 ∷ []) 2 (c .leaves) refl 12 2 k refl l h in absurd (omega arith));
       stays = (
         stays,
         back .as-before (nests [] true (c .nests) ∙ sym (back .from-inside refl .0)),
-        registers-same handler [] [] 0 handler-fits entered (c .stays) next,
+        registers-same handler [] [] handler-fits entered (c .stays) next,
       );
       leaves = (
         leaves,
         out .from-inside refl .1 ∙ nests cleared false (c .nests-not),
-        registers-same handler cleared (0 ∷ 0 ∷ []) 2 handler-fits entered (c .leaves) next,
+        registers-same handler cleared (0 ∷ 0 ∷ []) handler-fits entered (c .leaves .returns) next,
       );
     }
 
