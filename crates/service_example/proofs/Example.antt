@@ -42,7 +42,7 @@ use Rattle.isolation.proofs.Edition.{edition-stays}
 use Rattle.isolation.proofs.Examples.{locked-fits}
 use Rattle.levels.specs.Levels.{placeOf}
 use Rattle.service.specs.NoMark.{serviced, servicedTo, answerAfter, answerAt, Service, HeaderKept, Completes, operandCell, Untouched, PutBack}
-use Rattle.service.proofs.Asked.{leaves-no-mark, no-mark-determines, matching-asked, service-asked, untouched-asked, put-back-asked}
+use Rattle.service.proofs.Asked.{leaves-no-mark, no-mark-determines, matches-one, matching-asked, service-asked, untouched-asked, put-back-asked}
 use Rattle.service.proofs.Registers.{words-back, registers-back}
 use Rattle.service_example.specs.Example.{before, start, smi, rsm, steps, answers, after, ServiceExample, pastInner, PastInnerExample}
 use Rattle.service_example.specs.Needed.{Resumes, elsewhere, rerun, between, HeaderExample, handler, cleared, ModeExample, SegmentsExample}
@@ -379,13 +379,15 @@ past-inner-example =
     let entered = enters before 11 (c .entered) in
     let header = header-kept before pastInner expected (c .past .returns) in
     let back = resumes before pastInner expected (c .past .returns .answers) (c .past .returns .resumed) in
+    let v : Service before start smi pastInner rsm
+    = service before pastInner expected 7 (c .past) refl entered refl
+    (λ k l h. elsewhere-at before pastInner 4 (away _ (c .past-4)) k (only before pastInner expected 7 (c .past) refl 11 4 k refl l h))
+    (λ k l h. let z = only before pastInner expected 7 (c .past) refl 12 7 k refl l h in absurd (omega arith)) in
     record {
-      service =
-          service before pastInner expected 7 (c .past) refl entered refl
-          (λ k l h. elsewhere-at before pastInner 4 (away _ (c .past-4)) k (only before pastInner expected 7 (c .past) refl 11 4 k refl l h))
-          (λ k l h. let z = only before pastInner expected 7 (c .past) refl 12 7 k refl l h in absurd (omega arith));
+      service = v;
       answered = back .0;
       header = header;
+      alone = matches-one before start smi pastInner rsm 4 (v .matching) (omega arith) (answer-at before pastInner expected 7 (c .past) refl 4 (omega arith));
       same = registers-same before pastInner expected before-fits entered (c .past .returns) before-next;
       outside = registers-back before start smi pastInner rsm before-fits smi-fits entered (back .1) header .1 .from-outside refl;
     }

@@ -4,7 +4,7 @@ use Prim.Native.Nat.{ℕ}
 use mathlib.Core.Path.{_≡_}
 use mathlib.Core.Bool.{true, false}
 use mathlib.Core.List.{List, [], _∷_, map}
-use lib.ListN.{replicate}
+use lib.ListN.{replicate, drop}
 use Rattle.memory.specs.Memory.{Memories, memories, segment}
 use Rattle.steps.specs.declared.Step.{Step}
 use Rattle.steps.specs.declared.Step.the-variants.{Registers, Read, Write, PortRead, PortWrite, Opcode, Boundary, MalformedBoundary, Halt, Wake}
@@ -22,7 +22,7 @@ use Rattle.machine.specs.Machines.{machine}
 use Rattle.machine.specs.Steps.{stepped}
 use Rattle.runs.specs.Runs.{answersOf}
 use Rattle.isolation.specs.Widths.{MachineFits}
-use Rattle.service.specs.NoMark.{serviced, servicedTo, Service, HeaderKept, PutBack}
+use Rattle.service.specs.NoMark.{serviced, servicedTo, Matching, Service, HeaderKept, PutBack}
 
 -- USE_SMI, the lock and MAPEN set; 4 KiB at 1000h, and SMHR 1070h; SMM_MODE and N set
 abbrev pub settings : Settings
@@ -144,5 +144,7 @@ pub record PastInnerExample : Type 0 where
   pub service : Service before start smi pastInner rsm
   pub answered : map numberOf (answersOf (serviced before start smi pastInner)) ≡ 0 ∷ 0 ∷ 0 ∷ 0 ∷ 11 ∷ 0 ∷ 0 ∷ []
   pub header : HeaderKept before start smi (serviced before start smi pastInner)
+  -- it doesn't match the second entry, which is step number 4
+  pub alone : let r = servicedTo before start smi pastInner 4 in Matching (r .machine) (r .memory) smi (drop 5 pastInner) rsm → ⊥
   pub same : after before pastInner .registers ≡ before .registers
   pub outside : after before pastInner .inside ≡ false
