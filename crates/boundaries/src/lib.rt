@@ -1,4 +1,6 @@
 // What the record of a boundary says.
+#![tactic(auto)]
+
 ghost use Rattle.std.specs.Prelude.{◌≡◌, ◌&&◌, eqb};
 ghost use Rattle.boundaries.specs.Boundaries.{interruption_of, unused_zero, boundary_of, Recordable, Canonical};
 

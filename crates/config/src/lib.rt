@@ -1,3 +1,5 @@
+#![tactic(auto)]
+
 ghost use Rattle.std.specs.Prelude.{◌≡◌, false, ◌&&◌, eqb};
 ghost use Rattle.config.specs.Ports.{always_internal, internal, indexed, answering, port_read, port_write};
 ghost use Rattle.config.specs.Numbers.{OtherPorts, PortOfIndex, PortOfData, InternalByNumber};
@@ -7,7 +9,7 @@ use settings::Settings;
 use steps::Answer;
 
 // The settings, and the index that port 23h reaches while it is armed.
-#[derive(Drop)]
+#[derive(Clone, Copy)]
 pub struct Config {
     pub settings: Settings,
     pub index: u8,
@@ -15,7 +17,7 @@ pub struct Config {
 }
 
 // The configuration after a port access, and the answer.
-#[derive(Drop)]
+#[derive(Clone, Copy)]
 pub struct Accessed {
     pub config: Config,
     pub answer: Answer,

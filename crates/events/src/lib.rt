@@ -1,4 +1,6 @@
 // What a player notes of each record, as one number: the log. Its packing is stated in specs/, and known here alone.
+#![tactic(auto)]
+
 ghost use Rattle.std.specs.Prelude.{◌≡◌};
 ghost use Rattle.events.specs.Events.{event, noted, number_in, value_in, LogTakenApart};
 

@@ -1,4 +1,6 @@
 // The player for Rust and C to call: numbers and slices only.
+#![tactic(auto)]
+
 ghost use Rattle.std.specs.Prelude.{◌≡◌};
 ghost use Rattle.settings.specs.declared.Edition.TheVariants.{Cx486, Mii};
 ghost use Rattle.memory.specs.Memory.{memories};

@@ -1,3 +1,5 @@
+#![tactic(auto)]
+
 ghost use Rattle.std.specs.Prelude.{◌≡◌, true, false, map, ◌+◌, ◌*◌, ◌<◌, ◌≤◌, length};
 ghost use Rattle.std.proofs.lemmas.List.Edits.{sets};
 ghost use Rattle.header.specs.Header.{level_number, level_of, size_bits, port_size, cut, trap, trap_of, boundary_saved, smint_saved, contents, upward, words_bytes, headed, resumed, nested_in};
@@ -8,7 +10,7 @@ use memory::Segment;
 use steps::{Interruption, Transfer};
 
 // The privilege level.
-#[derive(Drop)]
+#[derive(Clone, Copy)]
 pub enum Level {
     Zero,
     One,
@@ -17,7 +19,7 @@ pub enum Level {
 }
 
 // The registers that entry saves and RSM loads.
-#[derive(Drop)]
+#[derive(Clone, Copy)]
 pub struct Registers {
     pub eip: u32,
     pub eflags: u32,
@@ -29,7 +31,7 @@ pub struct Registers {
 }
 
 // What a header records of an interruption.
-#[derive(Drop)]
+#[derive(Clone, Copy)]
 pub struct Trap {
     pub output: bool,
     pub rep: bool,
@@ -39,7 +41,7 @@ pub struct Trap {
 }
 
 // What entry records.
-#[derive(Drop)]
+#[derive(Clone, Copy)]
 pub struct Saved {
     pub registers: Registers,
     pub current: u32,

@@ -1,4 +1,6 @@
 // Theorem only: what is promised of every history of a journal (02, request 4). specs/Histories states it.
+#![tactic(auto)]
+
 ghost use Rattle.std.specs.Prelude.{[], replicate};
 ghost use Rattle.journal.specs.Stores.{store_count};
 ghost use Rattle.histories.specs.Histories.{off, History, EveryHistory};
@@ -8,7 +10,7 @@ ghost use Rattle.histories.specs.Closed.{RestartGoesOn, RestartKept, NextGoesOn,
 use journal::{Counter, Handed, Raised, Started};
 
 // What a raise and the restart after it answer.
-#[derive(Drop)]
+#[derive(Clone, Copy)]
 struct Outcome {
     answer: Raised,
     found: Started,

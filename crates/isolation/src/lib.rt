@@ -1,4 +1,6 @@
 // Theorems about the step and about lists of steps, and no code: specs/ has their statements, and proofs/ their proofs.
+#![tactic(auto)]
+
 ghost use Rattle.isolation.specs.Widths.{MachineFits};
 ghost use Rattle.isolation.specs.Refusals.{RefusedAsCalledFor, RefusalChangesNothing};
 ghost use Rattle.isolation.specs.Service.{EntersWhereDue, EntersAsStated, PassesAsStated, ResumesWhereDue, ResumesAsStated, ResumesAsEntered, PointersAsStated};

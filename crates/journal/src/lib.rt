@@ -1,4 +1,6 @@
 // The record counter's journal over a lent area (02, request 4): ceilings that outlive a power cut, and the numbers below them.
+#![tactic(auto)]
+
 ghost use Rattle.std.specs.Prelude.{◌≡◌, cond, ◌-◌, ◌*◌, ◌/◌, ◌%◌, ◌^◌, ◌<◌, eqb, get_or, set, take};
 ghost use Rattle.slots.specs.Area.{slot_count};
 ghost use Rattle.journal.specs.Stores.{store, stores, store_count, made};
@@ -10,32 +12,32 @@ use slots::{Contents, KIND_AT, SLOT_COUNT, SLOT_SIZE, TAKEN_KIND, TAKEN_LENGTH};
 const STORE_COUNT: u8 = 11;
 
 // The next number to hand out.
-#[derive(Drop)]
+#[derive(Clone, Copy)]
 pub struct Counter {
     pub next: u64,
 }
 
-#[derive(Drop)]
+#[derive(Clone, Copy)]
 pub enum Started {
     Ready(Counter),
     Refused,
 }
 
 // The number handed out, and the counter for the next call.
-#[derive(Drop)]
+#[derive(Clone, Copy)]
 pub enum Handed {
     Number(u64, Counter),
     Refused,
 }
 
-#[derive(Drop)]
+#[derive(Clone, Copy)]
 pub enum Raised {
     Done,
     Refused,
 }
 
 // One byte store of a raise.
-#[derive(Drop)]
+#[derive(Clone, Copy)]
 pub struct Store {
     pub at: usize,
     pub byte: u8,

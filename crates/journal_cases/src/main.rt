@@ -1,5 +1,7 @@
 // Plays a script over the record counter's journal (02, request 4), and writes it with the answer behind each command.
 // A line is a name, a colon, and commands with their numbers; a semicolon or the line's end closes each. The colon brings a fresh area.
+#![tactic(auto)]
+
 use journal::{Counter, Handed, Raised, Started};
 use libc::{STDIN_FILENO, STDOUT_FILENO};
 use slots::Contents;
@@ -41,7 +43,7 @@ const SPACE: usize = 4097;
 const TENTH: u64 = 1844674407370955162;
 
 // A command as far as it is read, with the last three numbers in it; the next number to hand out; how many bytes are lent.
-#[derive(Drop)]
+#[derive(Clone, Copy)]
 struct Script {
     command: u16,
     first: u64,

@@ -1,4 +1,6 @@
 // The record counter's journal (02, request 4) for Rust and C to call: numbers and slices only.
+#![tactic(auto)]
+
 ghost use Rattle.std.specs.Prelude.{◌≡◌, not, ◌&&◌, ltb};
 ghost use Rattle.fields.specs.Fields.{bit};
 ghost use Rattle.slots.specs.Area.{well_formed, ceiling as lastCeiling};

@@ -1,4 +1,6 @@
 // Theorems about service inside service, and no code: specs/ has their statements, and proofs/ their proofs.
+#![tactic(auto)]
+
 ghost use Rattle.levels.specs.Levels.{OriginRecorded, ReturnsThrough, Overwritten, NeverOut, BothStand, BothReturn, NothingNests};
 ghost use Rattle.levels.specs.Nested.{NestedExample, LevelsExample};
 

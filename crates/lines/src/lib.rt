@@ -1,9 +1,11 @@
+#![tactic(auto)]
+
 ghost use Rattle.std.specs.Prelude.{◌≡◌, ◌+◌, ◌*◌, ◌<◌, ◌≤◌, length, take};
 ghost use Rattle.lines.specs.Lines.{digit_of, decimal_of, hex_of, word_of, long_text};
 ghost use Rattle.lines.specs.Stores.{line_for, lines_for, text_for, Stored, Printed};
 
 // Why the player stopped.
-#[derive(Drop)]
+#[derive(Clone, Copy)]
 pub enum Reason {
     End,
     Limit,

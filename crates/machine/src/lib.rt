@@ -1,3 +1,5 @@
+#![tactic(auto)]
+
 ghost use Rattle.std.specs.Prelude.{◌≡◌, true, false, List, ℕ, eqb};
 ghost use Rattle.memory.specs.Memory.{memories};
 ghost use Rattle.steps.specs.Steps.{is_width, malformed};
@@ -16,7 +18,7 @@ use segments::{SegmentName, Segments};
 use settings::{Edition, Settings};
 use steps::{Answer, Interruption, Step};
 
-#[derive(Drop)]
+#[derive(Clone, Copy)]
 pub struct Machine {
     pub registers: Registers,
     pub segments: Segments,
@@ -27,7 +29,7 @@ pub struct Machine {
 }
 
 // The next machine, beside the answer.
-#[derive(Drop)]
+#[derive(Clone, Copy)]
 pub struct Stepped {
     pub machine: Machine,
     pub answer: Answer,

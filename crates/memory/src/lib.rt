@@ -1,3 +1,5 @@
+#![tactic(auto)]
+
 ghost use Rattle.std.specs.Prelude.{◌≡◌, ◌^◌, ◌≤◌, ◌<◌, min};
 ghost use Rattle.memory.specs.Memory.{segment, memories, byte_at, store_byte, absent, all_there, load, store, reaches, reads, writes, segment_at, store_segment};
 ghost use Rattle.memory.specs.Route.{Routed};
@@ -6,7 +8,7 @@ use region::Region;
 use steps::Answer;
 
 // A segment register: in memory the descriptor's eight bytes, and then the selector's two.
-#[derive(Drop)]
+#[derive(Clone, Copy)]
 pub struct Segment {
     pub selector: u16,
     pub descriptor: u64,
@@ -29,7 +31,7 @@ pub fn fresh(s: Segment) -> Segment
 }
 
 // The memory that answers all bytes of an access; bytewise where they are to be taken one by one.
-#[derive(Drop)]
+#[derive(Clone, Copy)]
 enum Route {
     Main,
     Management,

@@ -1,3 +1,5 @@
+#![tactic(auto)]
+
 ghost use Rattle.std.specs.Prelude.{◌≡◌, cond, ◌≤◌};
 ghost use Rattle.nesting.specs.Nesting.{smm_mode, bit_n, with_n, enhanced, entered_settings, resumed_settings, nestable, takes, stays_inside};
 ghost use Rattle.nesting.specs.Moving.{OnlyNDetermines, BitsAsked, BitsExamples, OnlyNMoves, NothingMoves, LastMoves};

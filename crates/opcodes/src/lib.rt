@@ -1,3 +1,5 @@
+#![tactic(auto)]
+
 ghost use Rattle.std.specs.Prelude.{◌≡◌};
 ghost use Rattle.opcodes.specs.Decode.{data_segment, svdc, rsdc, plain, later, grouped, smint_opcode, operation_of, operand_size, allowed};
 ghost use Rattle.opcodes.specs.Bytes.{ResumedBy, SavedBy, CsNotRestored, SevenRestored};
@@ -7,7 +9,7 @@ use segments::SegmentName;
 use settings::{Edition, Settings};
 
 // What an opcode asks for.
-#[derive(Drop)]
+#[derive(Clone, Copy)]
 pub enum Operation {
     Save(SegmentName),
     Restore(SegmentName),

@@ -1,3 +1,5 @@
+#![tactic(auto)]
+
 ghost use Rattle.std.specs.Prelude.{◌≡◌, ◌<◌, ◌≤◌};
 ghost use Rattle.memory.specs.Memory.{memories};
 ghost use Rattle.lines.specs.Stores.{Printed};
@@ -14,7 +16,7 @@ use settings::Edition;
 
 const GROUP_LEVELS: usize = 8;
 
-#[derive(Drop)]
+#[derive(Clone, Copy)]
 pub struct Played {
     pub machine: Machine,
     pub count: usize,

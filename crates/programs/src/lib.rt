@@ -1,4 +1,6 @@
 // What the programs of both editions do: each is a main that names its edition.
+#![tactic(auto)]
+
 ghost use Rattle.std.specs.Prelude.{◌≤◌, length};
 ghost use Rattle.programs.specs.Programs.{Shows, Shown};
 

@@ -1,3 +1,5 @@
+#![tactic(auto)]
+
 ghost use Rattle.memory.specs.Memory.{memories};
 ghost use Rattle.records.specs.Stretches.{state, Stretches};
 
@@ -8,7 +10,7 @@ use trace::Found;
 const RECORD_LIMIT: usize = 10000;
 
 // What a stretch of records ends at: a group, or a reason to stop.
-#[derive(Drop)]
+#[derive(Clone, Copy)]
 pub enum Stop {
     Group {
         rounds: u16,
@@ -21,7 +23,7 @@ pub enum Stop {
 }
 
 // What a stretch of records leaves; left are the rounds of the list that are not done, the present one among them.
-#[derive(Drop)]
+#[derive(Clone, Copy)]
 pub struct Ran {
     pub machine: Machine,
     pub count: usize,

@@ -1,4 +1,6 @@
 // Laws only: what a restart finds after a raise, whole or cut by the loss of power (02, request 4). specs/Cuts states it.
+#![tactic(auto)]
+
 ghost use Rattle.std.specs.Prelude.{◌≡◌, true};
 ghost use Rattle.slots.specs.Area.{ceiling, well_formed};
 ghost use Rattle.journal.specs.declared.Started.TheVariants.{Ready};
@@ -9,7 +11,7 @@ ghost use Rattle.recovery.specs.Cuts.{found_after};
 use journal::{Raised, Started};
 
 // What a raise and the restart after it answer.
-#[derive(Drop)]
+#[derive(Clone, Copy)]
 struct Outcome {
     answer: Raised,
     found: Started,

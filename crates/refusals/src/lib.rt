@@ -1,4 +1,6 @@
 // The refusals 1 to 3, which are tested before a step is tried.
+#![tactic(auto)]
+
 ghost use Rattle.std.specs.Prelude.{◌≡◌};
 ghost use Rattle.memory.specs.Memory.{memories};
 ghost use Rattle.refusals.specs.Refusals.{wrong_sizes, malformed_on, program_while_halted, first_refusal};
@@ -6,7 +8,7 @@ ghost use Rattle.refusals.specs.Refusals.{wrong_sizes, malformed_on, program_whi
 use steps::{Answer, Step};
 
 // The first refusal that is called for, or none.
-#[derive(Drop)]
+#[derive(Clone, Copy)]
 pub enum Verdict {
     Refused(Answer),
     Allowed,

@@ -1,3 +1,5 @@
+#![tactic(auto)]
+
 ghost use Rattle.std.specs.Prelude.{◌≡◌, ◌%◌, ◌≤◌, eqb};
 ghost use Rattle.region.specs.Region.{region_of, size_of, largest_code, usable, within};
 ghost use Rattle.region.specs.Ends.{NoneAbove, LastReaches};
@@ -6,7 +8,7 @@ ghost use Rattle.region.specs.Numbers.{SmarReadBack, UsableBySize, SizesListed};
 const LARGEST_CODE: u8 = 5;
 
 // A base and a size code, as SMAR names them. Code 0 names no region.
-#[derive(Drop)]
+#[derive(Clone, Copy)]
 pub struct Region {
     pub base: u32,
     pub code: u8,

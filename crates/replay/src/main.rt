@@ -1,4 +1,6 @@
 // Plays the trace on standard input in the 486 edition, and prints a line for each record and then why it stopped.
+#![tactic(auto)]
+
 use libc::STDIN_FILENO;
 use settings::Edition;
 

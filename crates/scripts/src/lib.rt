@@ -1,4 +1,6 @@
 // The steps that a list of records holds, groups written out: here, whether they can all be read.
+#![tactic(auto)]
+
 ghost use Rattle.std.specs.Prelude.{◌≡◌};
 ghost use Rattle.scripts.specs.Scripts.{is_end, within, Unbounded};
 ghost use Rattle.scripts.specs.Former.{UpToGroups, Groupless, SameAsFormerly, one_wake};

@@ -1,10 +1,12 @@
 // The segment registers: their names, and the seven beside CS, which is among the registers that entry saves.
+#![tactic(auto)]
+
 ghost use Rattle.std.specs.Prelude.{◌≡◌};
 ghost use Rattle.segments.specs.Segments.{is_cs, segment_named, with_named, reset_segments};
 
 use memory::Segment;
 
-#[derive(Drop)]
+#[derive(Clone, Copy)]
 pub enum SegmentName {
     Es,
     Cs,
@@ -16,7 +18,7 @@ pub enum SegmentName {
     Tr,
 }
 
-#[derive(Drop)]
+#[derive(Clone, Copy)]
 pub struct Segments {
     pub ds: Segment,
     pub es: Segment,

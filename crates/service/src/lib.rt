@@ -1,4 +1,6 @@
 // Theorems about a whole service, from entry to RSM, and no code: specs/ has their statements, and proofs/ their proofs.
+#![tactic(auto)]
+
 ghost use Rattle.service.specs.NoMark.{LeavesNoMark};
 ghost use Rattle.service.specs.Back.{WordsBack, RegistersBack, SegmentsBack, OnlyRestored};
 ghost use Rattle.service.specs.Stored.{LeftThere, StoresAsListed, OnlyStored, KeptUnlessStored, KeptWhereQuiet, UnchangedUnlessStored};

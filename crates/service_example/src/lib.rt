@@ -1,4 +1,6 @@
 // Examples of what the theorems of service ask for, and of what happens without each condition, and no code: specs/ has them, and they are computed.
+#![tactic(auto)]
+
 ghost use Rattle.service_example.specs.Example.{ServiceExample, PastInnerExample};
 ghost use Rattle.service_example.specs.Needed.{HeaderExample, ModeExample, SegmentsExample};
 

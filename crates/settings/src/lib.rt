@@ -1,3 +1,5 @@
+#![tactic(auto)]
+
 ghost use Rattle.std.specs.Prelude.{◌≡◌, ◌+◌, ◌≤◌};
 ghost use Rattle.settings.specs.Settings.{is_mii, use_smi, smac, mmac, smi_lock, mapen, region_in, smhr, window_of, header_end, header_fits, header_place, enabled, opcodes_allowed, byte_of, with_byte, with_smhr, later_bits, locked_bits, sticky_bits, kept_bits, merged, written};
 
@@ -6,7 +8,7 @@ use region::Region;
 const HEADER_LENGTH: u64 = 48;
 
 // The edition of the core.
-#[derive(Drop)]
+#[derive(Clone, Copy)]
 pub enum Edition {
     Cx486,
     Mii,
@@ -14,7 +16,7 @@ pub enum Edition {
 
 // The edition, which no step changes, and the stored configuration bytes: CCR1, CCR3, and the SMAR bytes CDh, CEh and CFh; of the later
 // edition CCR6, and the SMHR bytes B0h to B3h.
-#[derive(Drop)]
+#[derive(Clone, Copy)]
 pub struct Settings {
     pub edition: Edition,
     pub ccr1: u8,

@@ -1,4 +1,6 @@
 // Theorems about the settings, and no code: specs/ has their statements, and proofs/ their proofs.
+#![tactic(auto)]
+
 ghost use Rattle.settings_laws.specs.Locked.{SettingsFit, LockedAsListed};
 ghost use Rattle.settings_laws.specs.Headers.{EndsByEdition, PlaceBelowEnd, FitsWithin, FitsAlways, FitsNever, SmhrAtIndexes, SmhrLoaded};
 ghost use Rattle.settings_laws.specs.Routing.{WindowRoutes, RoutedByBits, EnabledByBits, Ccr3ByBits};

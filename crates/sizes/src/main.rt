@@ -1,6 +1,8 @@
 // Plays one short trace on memories of several sizes: the edges of what a step takes, and those just beyond them.
 // The trace: a reset, a write of the byte ABh at 0, a read of the byte at 0, and a read of the byte at FFFFFh; then a boundary with a port and no
 // output, a halt, the same boundary, and a read of the byte at 0.
+#![tactic(auto)]
+
 use libc::STDOUT_FILENO;
 use machine::Machine;
 use settings::Edition;

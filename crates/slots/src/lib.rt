@@ -1,4 +1,6 @@
 // The slots of a journal's area (02, request 4): how a lent area is read.
+#![tactic(auto)]
+
 ghost use Rattle.std.specs.Prelude.{◌≡◌, true, false, ℕ, ◌<◌, ◌≤◌};
 ghost use Rattle.slots.specs.Area.{slot_count, length_of, kind_of, ceiling_of, ceiling_before};
 ghost use Rattle.slots.specs.Contents.{continues, contents_of};
@@ -18,14 +20,14 @@ pub const TAKEN_LENGTH: u16 = 10;
 pub const TAKEN_KIND: u16 = 1;
 
 // What an area holds: how many slots are taken, and the last ceiling.
-#[derive(Drop)]
+#[derive(Clone, Copy)]
 pub enum Contents {
     Ceilings(usize, u64),
     Malformed,
 }
 
 // Slots from the first on that are taken, in order: how many, and the last ceiling.
-#[derive(Drop)]
+#[derive(Clone, Copy)]
 struct Prefix {
     count: usize,
     ceiling: u64,

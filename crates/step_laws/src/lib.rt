@@ -1,4 +1,6 @@
 // Theorem only: what is promised of a step, of the machine's code. specs/OneStep states it.
+#![tactic(auto)]
+
 ghost use Rattle.memory.specs.Memory.{memories};
 ghost use Rattle.machine.specs.Outcomes.{ends};
 ghost use Rattle.step_laws.specs.OneStep.{RefusedBy, RefusalLeaves, BoundaryPasses, LockKeeps};

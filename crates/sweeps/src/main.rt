@@ -1,4 +1,6 @@
 // Plays each trace file that an argument names in the 486 edition, and prints its name and what the program replay prints for it.
+#![tactic(auto)]
+
 use settings::Edition;
 
 fn main() {

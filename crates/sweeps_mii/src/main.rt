@@ -1,4 +1,6 @@
 // Plays each trace file that an argument names in the MII edition, and prints its name and what the program replay_mii prints for it.
+#![tactic(auto)]
+
 use settings::Edition;
 
 fn main() {

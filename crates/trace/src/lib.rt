@@ -1,4 +1,6 @@
 // The records of a trace: what stands at a place, and a reader that keeps the trace and its place.
+#![tactic(auto)]
+
 ghost use Rattle.std.specs.Prelude.{◌≡◌, cond, length};
 ghost use Rattle.trace.specs.Trace.{registers_of, record_of, is_kind, group_of, frame_at, found_at, passed, KindsAgree, listed, found_kind, group_stands, is_group};
 ghost use Rattle.trace.specs.Former.{FoundAsFormerly};
@@ -26,7 +28,7 @@ const GROUP: u16 = 16;
 const COUNT_SIZE: usize = 2;
 
 // What stands at a place: a record, as its step and the place past it, or a group, as its count, the place of its list and the place past it.
-#[derive(Drop)]
+#[derive(Clone, Copy)]
 pub enum Found {
     Record {
         step: Step,
@@ -43,7 +45,7 @@ pub enum Found {
 }
 
 // The same, with nothing of a record but the place past it, and of a group but the place of its list.
-#[derive(Drop)]
+#[derive(Clone, Copy)]
 pub enum Passed {
     Record { next: usize },
     Group { start: usize, next: usize },
@@ -53,7 +55,7 @@ pub enum Passed {
 }
 
 // A record or a group as its length says it: its kind, the place of its body and the place past it.
-#[derive(Drop)]
+#[derive(Clone, Copy)]
 enum Frame {
     Whole {
         kind: u16,
@@ -302,7 +304,7 @@ pub fn pass(trace: &[u8], at: usize) -> Passed
 }
 
 // A reader keeps the trace that it was lent and its place. The functions over it only take it apart or put it together.
-#[derive(Drop)]
+#[derive(Clone, Copy)]
 pub struct Reader<'a> {
     pub trace: &'a [u8],
     pub place: usize,
