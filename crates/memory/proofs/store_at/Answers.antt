@@ -12,8 +12,8 @@ loop-left-preserved c =
     let l = c.loop-left in
     let s = c.store_byte in (
       omega arith,
-      omega (arith, s.auto.1.0, s.auto.1.1.0),
-      omega (arith, s.auto.1.0, s.auto.1.1.0),
+      omega arith,
+      omega arith,
       store_turn _ (memories l.main l.management) l.at _ _ l.left l.rest (omega arith) s.ensures l.invariant.3,
     )
 
