@@ -16,8 +16,7 @@ use Prim.Native.Nat.{◌<◌, ◌^◌}
 use Rattle.segments.specs.declared.Segments.{Segments}
 use Rattle.isolation.specs.Widths.{SegmentFits, SegmentsFit}
 use Rattle.segments.specs.contracts.Segments as segments
-use Rattle.isolation.proofs.widths.Statement.{statement}
-use Rattle.isolation.proofs.widths.Tie as tie
+use Rattle.isolation.proofs.widths.Goals as goal
 
 registers-fit : (r : Registers) (vs : List Val) → Is (row registers.the_type) r vs → RegistersFit r
 registers-fit r vs h =
@@ -56,9 +55,8 @@ config-fits c vs h = (
   omega arith,
 )
 
-returns : tie.Need-returns
-returns c =
-    let e = c.well-formed.0.1.1 in
+pub returns : goal.returns
+returns c = let e = c.well_formed.0.1.1 in
     let k = config-fits c.args.m.config _ e.1.1.1.1.1.0 in
     record {
       registers = registers-fit c.args.m.registers _ e.0;
@@ -66,6 +64,3 @@ returns c =
       settings = k.0;
       index = k.1;
     }
-
-pub widths-spec : {M : Type 1} → statement M
-widths-spec = tie.close (tie.spec returns)

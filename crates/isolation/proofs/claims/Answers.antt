@@ -1,0 +1,13 @@
+use Rattle.isolation.proofs.Tightness.{header_determines, entry_determines, resumption_determines, resume_determines, agreement_determines}
+use Rattle.isolation.proofs.Pointers.{pointers_determine}
+use Rattle.isolation.proofs.claims.Goals as goal
+
+pub returns : goal.returns
+returns c = record {
+      header = header_determines;
+      entry = entry_determines;
+      resumption = resumption_determines;
+      resume = resume_determines;
+      pointers = pointers_determine;
+      agreement = agreement_determines;
+    }
