@@ -8,7 +8,7 @@ use borrow.Author.Tests.{eq-eqb, ne_eqb}
 use lib.Dec.{ltb}
 use lib.ListN.{length}
 use Rattle.slots.specs.declared.Contents.TheVariants.{Ceilings, Malformed}
-use Rattle.slots.specs.Area.{area_size, slot_count, taken_length, taken_kind, length_of, kind_of, ceiling_of, well_formed, ceiling_before, ceiling}
+use Rattle.slots.specs.Area.{area_size, slot_count, taken_length, taken_kind, length_of, kind_of, ceiling_of, well_formed, ceiling_before}
 use Rattle.slots.specs.Contents.{continues, contents_of}
 use Rattle.slots.proofs.Searching.{false_true, not-true}
 use Rattle.slots.proofs.Holding.{formed, first_free_lem, formed_holds, chain_holds, chain_stops}
