@@ -1,0 +1,13 @@
+use mathlib.Core.Path.{ap, ◌∙◌}
+use Rattle.journal_export.specs.Export.{raised_result}
+use Rattle.journal_export.proofs.Results.{raise_bit}
+use Rattle.journal_export.proofs.rostuvlad_journal_raise.Goals as goal
+
+pub returns : goal.returns
+returns c = let left = c.raise.ensures in
+    let result = c.raised_result.ensures ∙ ap (λ x. raised_result x.answer) left in
+    record {
+      result = result;
+      refused = result ∙ raise_bit _ _;
+      area = ap (λ x. x.area) left;
+    }
