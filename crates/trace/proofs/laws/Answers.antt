@@ -13,8 +13,7 @@ use Rattle.boundaries.proofs.Canonical.{by_cases}
 use Rattle.trace.specs.declared.Found.TheVariants.{Record, Bad}
 use Rattle.trace.specs.Trace.{Kind, kinds, registers_of, record_by, record_of}
 use Rattle.trace.proofs.Formerly.{found_as_formerly}
-use Rattle.trace.proofs.laws.Statement.{statement}
-use Rattle.trace.proofs.laws.Tie as tie
+use Rattle.trace.proofs.laws.Goals as goal
 
 abbrev Agree : List Kind → Type 0
 Agree [] = Unit
@@ -42,9 +41,9 @@ module _ (number next past : ℕ) (b : List ℕ) (s : Step) where
       go true false p f rest = not-bad f
       go false u p f rest = rest f
 
-returns : tie.Need-returns
+pub returns : goal.returns
 unfolding record_of
-returns c = (λ number next past b s e. by-table number next past b s kinds kinds-agree e, found_as_formerly)
-
-pub laws-spec : {M : Type 1} → statement M
-laws-spec = tie.close (tie.spec returns)
+returns c = record {
+  kinds = λ number next past b s e. by-table number next past b s kinds kinds-agree e;
+  formerly = found_as_formerly;
+}

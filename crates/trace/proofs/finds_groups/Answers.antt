@@ -1,20 +1,17 @@
 -- A group is found by the tests of the length, the kind and the count, and no kind of the table is one.
-use mathlib.Core.Path.{◌≡◌, refl, sym, ap, ◌∙◌}
+use mathlib.Core.Path.{◌≡◌, refl, ap, ◌∙◌}
 use mathlib.Core.Bool.{Bool, true, false, cond, not, ◌&&◌, ◌||◌}
 use mathlib.Core.List.{List, [], ◌∷◌}
 use Prim.Native.Nat.{ℕ, ◌+◌, ◌-◌, ◌<◌}
 use native.Mathlib.Omega.{arith}
 use lib.Dec.{eqb, leb, ltb}
 use lib.ListN.{length}
-use borrow.Author.Rules.{rules}
 use borrow.Author.Tests.{leb-true, leb-false, ltb-true, ltb-false, le-leb, lt-leb}
 use Rattle.fields.specs.Fields.{field_at}
-use Rattle.trace.specs.declared.Found.TheVariants.{Record, Group, End, Torn, Bad}
-use Rattle.trace.specs.declared.Frame.{Frame}
+use Rattle.trace.specs.declared.Found.TheVariants.{Record, Group, Bad}
 use Rattle.trace.specs.declared.Frame.TheVariants as frame
-use Rattle.trace.specs.Trace.{Kind, kinds, record_by, record_of, group_of, length_at, kind_at, past_at, part, ended, torn, short, frame_at, framed, found_at, group_stands, is_group}
-use Rattle.trace.proofs.finds_groups.Statement.{statement}
-use Rattle.trace.proofs.finds_groups.Tie as tie
+use Rattle.trace.specs.Trace.{Kind, kinds, record_by, record_of, group_of, kind_at, past_at, part, ended, short, frame_at, framed, found_at, group_stands, is_group}
+use Rattle.trace.proofs.finds_groups.Goals as goal
 
 no_record : (ks : List Kind) (number next : ℕ) (b : List ℕ) → is_group (record_by ks number b next) ≡ false
 unfolding record_by is_group
@@ -75,11 +72,5 @@ module _ (l : List ℕ) (at : ℕ) where
           )
       by false false false false e f g h = rw (le-leb (at + 2 + n) (length l) (ltb-false (length l) (past_at l at) g)) whole
 
-record-at-requires : tie.Need-record-at-requires
-record-at-requires c κs = search rules
-
-returns : tie.Need-returns
-returns c = ap is_group c.record-at.ensures ∙ found _ _
-
-pub finds-groups-spec : {M : Type 1} → statement M
-finds-groups-spec = tie.close (tie.spec record-at-requires returns)
+pub returns : goal.returns
+returns c = ap is_group c.record_at.ensures ∙ found _ _

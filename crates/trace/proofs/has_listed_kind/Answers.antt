@@ -6,14 +6,12 @@ use Prim.Native.Nat.{ℕ, zero, suc, ◌<◌, ◌≤◌}
 use native.Mathlib.Omega.{arith}
 use lib.Dec.{eqb, ltb, lit<}
 use lib.ListN.{length}
-use borrow.Author.Rules.{rules}
 use borrow.Author.Tests.{eqb-true, eqb-false, ne_eqb, ltb-true, ltb-false, le-leb, lt-leb}
 use Rattle.steps.specs.Steps.{kind_of}
 use Rattle.boundaries.proofs.Canonical.{by_cases}
 use Rattle.trace.specs.declared.Found.TheVariants.{Record, Bad}
 use Rattle.trace.specs.Trace.{Kind, kinds, registers_of, record_by, record_of, is_kind_by, is_kind, listed, found_kind}
-use Rattle.trace.proofs.has_listed_kind.Statement.{statement}
-use Rattle.trace.proofs.has_listed_kind.Tie as tie
+use Rattle.trace.proofs.has_listed_kind.Goals as goal
 
 abbrev Agree : List Kind → Type 0
 Agree [] = Unit
@@ -73,16 +71,9 @@ sizes number size = by (ltb number 11) refl
         let l : 11 ≤ number = ltb-false number 11 e in
         none number size l kinds low ∙ sym (rw (le-leb 1 number (omega arith), lt-leb number 10 (omega arith)))
 
-decode-requires : tie.Need-decode-requires
-decode-requires c κs = search rules
-
-returns : tie.Need-returns
+pub returns : goal.returns
 unfolding record_of is_kind
-returns c =
-    let k = c.before.before.args.kind in
+returns c = let k = c.args.kind in
     ap found_kind c.decode.ensures
-    ∙ by-table k c.before.before.args.next _ kinds kinds-agree
+    ∙ by-table k c.args.next _ kinds kinds-agree
     ∙ ap (λ (t : Bool). cond t k 0) (sizes k _)
-
-pub has-listed-kind-spec : {M : Type 1} → statement M
-has-listed-kind-spec = tie.close (tie.spec decode-requires returns)
