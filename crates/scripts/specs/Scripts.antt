@@ -72,7 +72,7 @@ within (suc d) l = rest (within d) l 0
 abbrev pub whole : List ℕ → Script
 whole trace = rest (within group_levels) trace 0
 
--- Reading a list from a place on is what stands there, and then reading on: so the bound of `readFrom` doesn't show.
+-- Reading a list from a place on is what stands there, and then reading on: so the bound of `read_from` doesn't show.
 abbrev pub Unbounded : Type 0
 Unbounded = (d : ℕ) (l : List ℕ) (at : ℕ) → rest (within d) l at ≡ read_by (found_at l at) l (within d) (rest (within d) l)
 
