@@ -46,6 +46,7 @@ def snake(name):
 def library_names():
     found = set()
     for top, dirs, files in os.walk(KIT):
+        dirs[:] = [d for d in dirs if d not in ("examples", "tests")]
         for name in files:
             if name.endswith(".antt"):
                 with open(os.path.join(top, name), encoding="utf-8") as f:

@@ -11,7 +11,7 @@ use Rattle.fields.specs.Fields.{bytes_of}
 use Rattle.slots.specs.Area.{slot_count, first_free, ceiling_before, ceiling}
 use Rattle.slots.proofs.Holding.{Holds, formed, first_free_lem, ceiling_is}
 use Rattle.journal.specs.Stores.{upward, stores, store_count, made}
-use Rattle.journal.specs.Answers.{counter, next_of, refusesRaise, raiseOf, raisePartOf}
+use Rattle.journal.specs.Answers.{counter, next_of, refuses_raise, raise_of, raise_part_of}
 use Rattle.recovery.proofs.Raising.{torn_holds, torn_ceiling, done_holds, done_ceiling}
 use Rattle.histories.specs.Histories.{Run, off, on, IsU64, History, fresh, restart, next, raise, part, power_off}
 use Rattle.histories.specs.Example.{slot_bytes, torn_bytes, ExampleHistory}
@@ -48,12 +48,12 @@ module _ {a : List ℕ} {k m n : ℕ} {ns : List ℕ} (t : Reached a k m (on (co
     above : ceiling a < v
     above = rw t.last l
 
-    accepts : refusesRaise a v ≡ false
-    unfolding refusesRaise
+    accepts : refuses_raise a v ≡ false
+    unfolding refuses_raise
     accepts = rw (formed t.holds, ne_eqb (first_free a) slot_count (λ e. omega (arith, first_free_lem t.holds)), lt-leb v (ceiling a) above)
 
     raised : made (stores k v) a ≡ b → Reached b (k + 1) v (on (counter n)) ns
-    unfolding raiseOf
+    unfolding raise_of
     raised e = record {
       history = rw (← e) (rw (accepts, first_free_lem t.holds) at (raise v w t.history));
       holds = rw (← e) (done_holds t.holds v f (omega arith) above);
@@ -61,7 +61,7 @@ module _ {a : List ℕ} {k m n : ℕ} {ns : List ℕ} (t : Reached a k m (on (co
     }
 
     stopped : (d : ℕ) → d < store_count → made (take d (stores k v)) a ≡ b → Reached b k m (on (counter n)) ns
-    unfolding raisePartOf
+    unfolding raise_part_of
     stopped d o e = record {
       history = rw (← e) (rw (accepts, first_free_lem t.holds) at (part v d w t.history));
       holds = rw (← e) (torn_holds t.holds v d o);

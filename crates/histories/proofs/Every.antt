@@ -17,7 +17,7 @@ use Rattle.journal.specs.declared.Started.TheVariants as start
 use Rattle.journal.specs.declared.Handed.{Handed}
 use Rattle.journal.specs.declared.Handed.TheVariants as hand
 use Rattle.journal.specs.Stores.{store_count}
-use Rattle.journal.specs.Answers.{counter, restartOf, next_of}
+use Rattle.journal.specs.Answers.{counter, restart_of, next_of}
 use Rattle.journal.proofs.Answering.{part_whole}
 use Rattle.recovery.specs.Cuts.{Finds}
 use Rattle.recovery.proofs.Raising.{Kept, part_keeps, raise_survives}
@@ -27,7 +27,7 @@ use Rattle.histories.proofs.Lists.{AllBelow, below_higher, below_last, rises_las
 -- ---- what the answers tell
 
 pub ready : (a : List ℕ) → well_formed a ≡ true → Finds a (ceiling a)
-unfolding restartOf
+unfolding restart_of
 ready a w = rw w
 
 abbrev begins_at : Started → ℕ

@@ -4,7 +4,7 @@ use Rattle.slots.specs.Area.{area_size, ceiling}
 use Rattle.journal.specs.declared.Counter.{Counter}
 use Rattle.journal.specs.declared.Started.TheVariants as start
 use Rattle.journal.specs.declared.Handed.TheVariants as hand
-use Rattle.journal.specs.Answers.{restartOf, next_of, raiseOf, raisePartOf}
+use Rattle.journal.specs.Answers.{restart_of, next_of, raise_of, raise_part_of}
 use Rattle.recovery.specs.Cuts.{Finds, SurvivesCuts}
 
 -- whether a run is on, and with which counter: a restart begins it, and a power cut ends it
@@ -22,12 +22,12 @@ pub data History : List ℕ → Run → List ℕ → Type 0 where
   -- "fresh area all zero"
   fresh : History (replicate area_size 0) off []
   -- "each run begun by a restart", at any time
-  restart : {a : List ℕ} {r : Run} {ns : List ℕ} {c : Counter} → History a r ns → restartOf a ≡ start.Ready c → History a (on c) ns
+  restart : {a : List ℕ} {r : Run} {ns : List ℕ} {c : Counter} → History a r ns → restart_of a ≡ start.Ready c → History a (on c) ns
   next : {a : List ℕ} {c c' : Counter} {ns : List ℕ} {n : ℕ} → History a (on c) ns → next_of c a ≡ hand.Number n c'
       → History a (on c') (ns ++ (n ∷ []))
-  raise : {a : List ℕ} {c : Counter} {ns : List ℕ} (v : ℕ) → IsU64 v → History a (on c) ns → History (raiseOf a v).area (on c) ns
+  raise : {a : List ℕ} {c : Counter} {ns : List ℕ} (v : ℕ) → IsU64 v → History a (on c) ns → History (raise_of a v).area (on c) ns
   -- a raise that stops after n of its stores: `power-off` may follow, which is a power cut there
-  part : {a : List ℕ} {c : Counter} {ns : List ℕ} (v n : ℕ) → IsU64 v → History a (on c) ns → History (raisePartOf a v n).area (on c) ns
+  part : {a : List ℕ} {c : Counter} {ns : List ℕ} (v n : ℕ) → IsU64 v → History a (on c) ns → History (raise_part_of a v n).area (on c) ns
   -- the power goes, at any time
   power_off : {a : List ℕ} {r : Run} {ns : List ℕ} → History a r ns → History a off ns
 

@@ -17,7 +17,7 @@ use Rattle.journal.specs.declared.Started.TheVariants as start
 use Rattle.journal.specs.declared.Handed.TheVariants as hand
 use Rattle.journal.specs.declared.Raised.TheVariants as rise
 use Rattle.journal.specs.Stores.{stores, store_count, made}
-use Rattle.journal.specs.Answers.{counter, restartOf, next_of, refusesRaise, left, raiseOf, raisePartOf}
+use Rattle.journal.specs.Answers.{counter, restart_of, next_of, refuses_raise, left, raise_of, raise_part_of}
 use Rattle.journal.proofs.Bytes.{eleven}
 
 -- ---- what was read tells of the area
@@ -58,23 +58,23 @@ tells a n c e = by (well_formed a) refl e
 -- ---- a damaged area
 
 module _ (a : List ℕ) (e : contents_of a ≡ Malformed) where
-  pub restart_damaged : start.Refused ≡ restartOf a
-  unfolding restartOf
+  pub restart_damaged : start.Refused ≡ restart_of a
+  unfolding restart_of
   restart_damaged = rw (damaged_told a e)
 
   pub next_damaged : (x : Counter) → hand.Refused ≡ next_of x a
   unfolding next_of
   next_damaged x = rw (damaged_told a e)
 
-  pub raise_damaged : (v n : ℕ) → left rise.Refused a ≡ raisePartOf a v n
-  unfolding raisePartOf refusesRaise
+  pub raise_damaged : (v n : ℕ) → left rise.Refused a ≡ raise_part_of a v n
+  unfolding raise_part_of refuses_raise
   raise_damaged v n = rw (damaged_told a e)
 
 -- ---- a well-formed one
 
 module _ (a : List ℕ) (m c : ℕ) (e : contents_of a ≡ Ceilings m c) where
-  pub restart_ready : start.Ready (counter c) ≡ restartOf a
-  unfolding restartOf
+  pub restart_ready : start.Ready (counter c) ≡ restart_of a
+  unfolding restart_of
   restart_ready = let t = tells a m c e in rw (t.formed, t.last)
 
   pub next_number : (x : Counter) → x.next < c → hand.Number x.next (counter (x.next + 1)) ≡ next_of x a
@@ -86,27 +86,27 @@ module _ (a : List ℕ) (m c : ℕ) (e : contents_of a ≡ Ceilings m c) where
   next_high x l = let t = tells a m c e in rw (t.formed, le-ltb x.next (ceiling a) (rw t.last at l))
 
   module _ (v n : ℕ) where
-    pub raise_full : m ≡ slot_count → left rise.Refused a ≡ raisePartOf a v n
-    unfolding raisePartOf refusesRaise
+    pub raise_full : m ≡ slot_count → left rise.Refused a ≡ raise_part_of a v n
+    unfolding raise_part_of refuses_raise
     raise_full f = let t = tells a m c e in rw (t.formed, eq-eqb (first_free a) slot_count (sym t.count ∙ f))
 
     module _ (f : m ≡ slot_count → ⊥) where
       pub slot_free : m < slot_count
       slot_free = omega (arith, f, (tells a m c e).count, first_most slot_count (free a))
 
-      pub raise_low : v ≤ c → left rise.Refused a ≡ raisePartOf a v n
-      unfolding raisePartOf refusesRaise
+      pub raise_low : v ≤ c → left rise.Refused a ≡ raise_part_of a v n
+      unfolding raise_part_of refuses_raise
       raise_low l =
           let t = tells a m c e in
           rw (t.formed, ne_eqb (first_free a) slot_count (λ q. f (t.count ∙ q)), le-leb v (ceiling a) (rw t.last at l))
 
-      pub raise_done : (b : List ℕ) → c < v → b ≡ made (take n (stores m v)) a → left rise.Done b ≡ raisePartOf a v n
-      unfolding raisePartOf refusesRaise
+      pub raise_done : (b : List ℕ) → c < v → b ≡ made (take n (stores m v)) a → left rise.Done b ≡ raise_part_of a v n
+      unfolding raise_part_of refuses_raise
       raise_done b l g =
           let t = tells a m c e in
           rw (t.formed, ne_eqb (first_free a) slot_count (λ q. f (t.count ∙ q)), lt-leb v (ceiling a) (rw t.last at l), g, t.count)
 
 -- with all its stores it is a raise
-pub part_whole : (a : List ℕ) (v n : ℕ) → store_count ≤ n → raisePartOf a v n ≡ raiseOf a v
-unfolding raisePartOf raiseOf
+pub part_whole : (a : List ℕ) (v n : ℕ) → store_count ≤ n → raise_part_of a v n ≡ raise_of a v
+unfolding raise_part_of raise_of
 part_whole a v n l = rw (take_all n (stores (first_free a) v) (rw eleven l))

@@ -14,16 +14,16 @@ abbrev pub counter : ℕ → Counter
 counter n = record { next = n }
 
 -- "Restart .. refuses any other area, and only that"; "After a restart numbers begin at that ceiling, or at 0 with none"
-unfoldable pub restartOf : List ℕ → Started
-restartOf a = cond (well_formed a) (start.Ready (counter (ceiling a))) start.Refused
+unfoldable pub restart_of : List ℕ → Started
+restart_of a = cond (well_formed a) (start.Ready (counter (ceiling a))) start.Refused
 
 -- "handed out, one higher each time, exactly if the area is well formed and it is below the last ceiling there"
 unfoldable pub next_of : Counter → List ℕ → Handed
 next_of c a = cond (well_formed a && ltb c.next (ceiling a)) (hand.Number c.next (counter (c.next + 1))) hand.Refused
 
 -- "a value not above the present ceiling .. refused, as is a raise when all 341 slots are taken or when the area isn't well formed"
-unfoldable pub refusesRaise : List ℕ → ℕ → Bool
-refusesRaise a v = not (well_formed a) || eqb (first_free a) slot_count || leb v (ceiling a)
+unfoldable pub refuses_raise : List ℕ → ℕ → Bool
+refuses_raise a v = not (well_formed a) || eqb (first_free a) slot_count || leb v (ceiling a)
 
 -- an answer, and the area that it leaves
 pub record Left : Type 0 where
@@ -34,9 +34,9 @@ abbrev pub left : Raised → List ℕ → Left
 left r a = record { answer = r; area = a }
 
 -- a raise; "a refusal stores nothing"
-unfoldable pub raiseOf : List ℕ → ℕ → Left
-raiseOf a v = cond (refusesRaise a v) (left rise.Refused a) (left rise.Done (made (stores (first_free a) v) a))
+unfoldable pub raise_of : List ℕ → ℕ → Left
+raise_of a v = cond (refuses_raise a v) (left rise.Refused a) (left rise.Done (made (stores (first_free a) v) a))
 
 -- a raise that stops after n of its stores, as at a power cut, and answers as the whole one would; with n above eleven nothing stops it
-unfoldable pub raisePartOf : List ℕ → ℕ → ℕ → Left
-raisePartOf a v n = cond (refusesRaise a v) (left rise.Refused a) (left rise.Done (made (take n (stores (first_free a) v)) a))
+unfoldable pub raise_part_of : List ℕ → ℕ → ℕ → Left
+raise_part_of a v n = cond (refuses_raise a v) (left rise.Refused a) (left rise.Done (made (take n (stores (first_free a) v)) a))

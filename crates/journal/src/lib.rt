@@ -4,7 +4,7 @@
 ghost use Rattle.std.specs.Prelude.{◌≡◌, cond, ◌-◌, ◌*◌, ◌/◌, ◌%◌, ◌^◌, ◌<◌, eqb, get_or, set, take};
 ghost use Rattle.slots.specs.Area.{slot_count};
 ghost use Rattle.journal.specs.Stores.{store, stores, store_count, made};
-ghost use Rattle.journal.specs.Answers.{restartOf, next_of, left, raiseOf, raisePartOf};
+ghost use Rattle.journal.specs.Answers.{restart_of, next_of, left, raise_of, raise_part_of};
 
 use slots::{Contents, KIND_AT, SLOT_COUNT, SLOT_SIZE, TAKEN_KIND, TAKEN_LENGTH};
 
@@ -44,7 +44,7 @@ pub struct Store {
 }
 
 pub fn restart(area: &[u8]) -> Started
-    ensures { result ≡ restartOf area.now }
+    ensures { result ≡ restart_of area.now }
 {
     let found = slots::read(area);
     match found {
@@ -132,7 +132,7 @@ fn store_all(area: &mut [u8], slot: usize, value: u64, power: u8)
 
 // A raise with power for n of its stores.
 pub fn raise_part(area: &mut [u8], value: u64, n: u8) -> Raised
-    ensures { left result area.new ≡ raisePartOf area.old value n }
+    ensures { left result area.new ≡ raise_part_of area.old value n }
 {
     let found = slots::read(area);
     match found {
@@ -151,7 +151,7 @@ pub fn raise_part(area: &mut [u8], value: u64, n: u8) -> Raised
 }
 
 pub fn raise(area: &mut [u8], value: u64) -> Raised
-    ensures { left result area.new ≡ raiseOf area.old value }
+    ensures { left result area.new ≡ raise_of area.old value }
 {
     raise_part(area, value, STORE_COUNT)
 }

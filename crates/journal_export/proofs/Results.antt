@@ -9,7 +9,7 @@ use Rattle.slots.specs.Area.{well_formed, ceiling}
 use Rattle.journal.specs.declared.Counter.{Counter}
 use Rattle.journal.specs.declared.Started.TheVariants as start
 use Rattle.journal.specs.declared.Handed.TheVariants as hand
-use Rattle.journal.specs.Answers.{counter, restartOf, next_of, refusesRaise, left, raiseOf, raisePartOf}
+use Rattle.journal.specs.Answers.{counter, restart_of, next_of, refuses_raise, left, raise_of, raise_part_of}
 use Rattle.journal.specs.declared.Raised.TheVariants as rise
 use Rattle.journal_export.specs.Export.{started_result, handed_result, raised_result}
 
@@ -18,8 +18,8 @@ by_test : {A : Type 0} (result : A → ℕ) (b : Bool) (x y : A) → result x �
 by_test result true x y e f = e
 by_test result false x y e f = f
 
-pub restart_bit : (a : List ℕ) → started_result (restartOf a) ≡ bit (not (well_formed a))
-unfolding restartOf
+pub restart_bit : (a : List ℕ) → started_result (restart_of a) ≡ bit (not (well_formed a))
+unfolding restart_of
 restart_bit a = by_test started_result (well_formed a) (start.Ready (counter (ceiling a))) start.Refused refl refl
 
 pub next_bit : (c : Counter) (a : List ℕ) → handed_result (next_of c a) ≡ bit (not (well_formed a && ltb c.next (ceiling a)))
@@ -31,10 +31,10 @@ module _ (a : List ℕ) (v : ℕ) where
   refused_bit true l = refl
   refused_bit false l = refl
 
-  pub raise_bit : raised_result (raiseOf a v).answer ≡ bit (refusesRaise a v)
-  unfolding raiseOf
-  raise_bit = refused_bit (refusesRaise a v) _
+  pub raise_bit : raised_result (raise_of a v).answer ≡ bit (refuses_raise a v)
+  unfolding raise_of
+  raise_bit = refused_bit (refuses_raise a v) _
 
-  pub part_bit : (n : ℕ) → raised_result (raisePartOf a v n).answer ≡ bit (refusesRaise a v)
-  unfolding raisePartOf
-  part_bit n = refused_bit (refusesRaise a v) _
+  pub part_bit : (n : ℕ) → raised_result (raise_part_of a v n).answer ≡ bit (refuses_raise a v)
+  unfolding raise_part_of
+  part_bit n = refused_bit (refuses_raise a v) _

@@ -36,7 +36,7 @@ abbrev pub handed_number : Handed → ℕ → ℕ
 handed_number (hand.Number n c) number = n
 handed_number hand.Refused number = number
 
--- a raise (02, request 4), whole or in part; the area is that of `raiseOf` and `raisePartOf`
+-- a raise (02, request 4), whole or in part; the area is that of `raise_of` and `raise_part_of`
 abbrev pub raised_result : Raised → ℕ
 raised_result rise.Done = done
 raised_result rise.Refused = refused

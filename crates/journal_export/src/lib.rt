@@ -4,7 +4,7 @@
 ghost use Rattle.std.specs.Prelude.{◌≡◌, not, ◌&&◌, ltb};
 ghost use Rattle.fields.specs.Fields.{bit};
 ghost use Rattle.slots.specs.Area.{well_formed, ceiling as lastCeiling};
-ghost use Rattle.journal.specs.Answers.{counter, restartOf, next_of, refusesRaise, raiseOf, raisePartOf};
+ghost use Rattle.journal.specs.Answers.{counter, restart_of, next_of, refuses_raise, raise_of, raise_part_of};
 ghost use Rattle.journal_export.specs.Export.{started_result, started_next, handed_result, handed_next, handed_number, raised_result};
 
 use journal::{Counter, Handed, Raised, Started};
@@ -16,9 +16,9 @@ const REFUSED: u8 = 1;
 
 #[unsafe(no_mangle)]
 pub extern "C" fn rostuvlad_journal_restart(area: &[u8], next: &mut u64) -> u8
-    ensures result { result ≡ started_result (restartOf area.now) }
+    ensures result { result ≡ started_result (restart_of area.now) }
     ensures refused { result ≡ bit (not (well_formed area.now)) }
-    ensures next { next.new ≡ started_next (restartOf area.now) next.old }
+    ensures next { next.new ≡ started_next (restart_of area.now) next.old }
 {
     let started = journal::restart(area);
     match started {
@@ -59,9 +59,9 @@ fn raised_result(answer: Raised) -> u8
 
 #[unsafe(no_mangle)]
 pub extern "C" fn rostuvlad_journal_raise(area: &mut [u8], ceiling: u64) -> u8
-    ensures result { result ≡ raised_result (raiseOf area.old ceiling).answer }
-    ensures refused { result ≡ bit (refusesRaise area.old ceiling) }
-    ensures area { area.new ≡ (raiseOf area.old ceiling).area }
+    ensures result { result ≡ raised_result (raise_of area.old ceiling).answer }
+    ensures refused { result ≡ bit (refuses_raise area.old ceiling) }
+    ensures area { area.new ≡ (raise_of area.old ceiling).area }
 {
     raised_result(journal::raise(area, ceiling))
 }
@@ -69,9 +69,9 @@ pub extern "C" fn rostuvlad_journal_raise(area: &mut [u8], ceiling: u64) -> u8
 // A raise that stops after so many of its eleven stores.
 #[unsafe(no_mangle)]
 pub extern "C" fn rostuvlad_journal_raise_part(area: &mut [u8], ceiling: u64, stores: u8) -> u8
-    ensures result { result ≡ raised_result (raisePartOf area.old ceiling stores).answer }
-    ensures refused { result ≡ bit (refusesRaise area.old ceiling) }
-    ensures area { area.new ≡ (raisePartOf area.old ceiling stores).area }
+    ensures result { result ≡ raised_result (raise_part_of area.old ceiling stores).answer }
+    ensures refused { result ≡ bit (refuses_raise area.old ceiling) }
+    ensures area { area.new ≡ (raise_part_of area.old ceiling stores).area }
 {
     raised_result(journal::raise_part(area, ceiling, stores))
 }

@@ -18,7 +18,7 @@ use Rattle.journal.specs.declared.Started.TheVariants as start
 use Rattle.journal.specs.declared.Raised.{Raised}
 use Rattle.journal.specs.declared.Raised.TheVariants as rise
 use Rattle.journal.specs.Stores.{stores, store_count, made}
-use Rattle.journal.specs.Answers.{counter, restartOf, refusesRaise, left, Left, raiseOf, raisePartOf}
+use Rattle.journal.specs.Answers.{counter, restart_of, refuses_raise, left, Left, raise_of, raise_part_of}
 use Rattle.journal.proofs.Bytes.{length_made, eleven}
 use Rattle.journal.proofs.Answering.{part_whole}
 use Rattle.recovery.specs.Cuts.{Finds, found_after, SurvivesCuts}
@@ -100,11 +100,11 @@ module _ {a : List ℕ} {n : ℕ} (h : Holds a n) (v : ℕ) where
 -- ---- what a restart finds
 
 holds_finds : {a : List ℕ} {n : ℕ} → Holds a n → Finds a (ceiling a)
-unfolding restartOf
+unfolding restart_of
 holds_finds h = rw (formed h)
 
-accepted : (a : List ℕ) (v : ℕ) → well_formed a ≡ true → refusesRaise a v ≡ false → (first_free a ≡ slot_count → ⊥) × (ceiling a < v)
-unfolding refusesRaise
+accepted : (a : List ℕ) (v : ℕ) → well_formed a ≡ true → refuses_raise a v ≡ false → (first_free a ≡ slot_count → ⊥) × (ceiling a < v)
+unfolding refuses_raise
 accepted a v w r = by (eqb (first_free a) slot_count) (leb v (ceiling a)) refl refl (rw w at r)
   where
     by : (x y : Bool) → eqb (first_free a) slot_count ≡ x → leb v (ceiling a) ≡ y → x || y ≡ false → (first_free a ≡ slot_count → ⊥) × (ceiling a < v)
@@ -122,7 +122,7 @@ module _ (a : List ℕ) (v : ℕ) (w : well_formed a ≡ true) (fit : v < 256 ^ 
   h = formed_holds a w
 
   -- all eleven stores
-  module _ (r : refusesRaise a v ≡ false) where
+  module _ (r : refuses_raise a v ≡ false) where
     above : ceiling a < v
     above = (accepted a v w r).1
 
@@ -146,7 +146,7 @@ module _ (a : List ℕ) (v : ℕ) (w : well_formed a ≡ true) (fit : v < 256 ^ 
   after n b = cond b (left rise.Refused a) (left rise.Done (made (take n (stores (first_free a) v)) a))
 
   -- of one that isn't refused, by whether all stores are made
-  leaves_done : {k : ℕ} (n : ℕ) → k ≡ store_count → refusesRaise a v ≡ false
+  leaves_done : {k : ℕ} (n : ℕ) → k ≡ store_count → refuses_raise a v ≡ false
       → LeftBy (made (take n (stores (first_free a) v)) a) (cond (ltb n k) (ceiling a) v)
   leaves_done {k} n e r = by (ltb n k) refl
     where
@@ -159,18 +159,18 @@ module _ (a : List ℕ) (v : ℕ) (w : well_formed a ≡ true) (fit : v < 256 ^ 
           rw (take_all n (stores (first_free a) v) (rw eleven l))
           (record { held = first_free a + 1; holds = whole_holds r; last = whole_ceiling r; grows = omega (arith, above r) })
 
-  leaves : (n : ℕ) → LeftBy (raisePartOf a v n).area (found_after (raisePartOf a v n).answer (ceiling a) v n)
-  unfolding raisePartOf
-  leaves n = by (refusesRaise a v) refl
+  leaves : (n : ℕ) → LeftBy (raise_part_of a v n).area (found_after (raise_part_of a v n).answer (ceiling a) v n)
+  unfolding raise_part_of
+  leaves n = by (refuses_raise a v) refl
     where
-      by : (b : Bool) → refusesRaise a v ≡ b → LeftBy (after n b).area (found_after (after n b).answer (ceiling a) v n)
+      by : (b : Bool) → refuses_raise a v ≡ b → LeftBy (after n b).area (found_after (after n b).answer (ceiling a) v n)
       by true r = record { held = first_free a; holds = h; last = refl; grows = omega arith }
       by false r = leaves_done n (omega arith) r
 
-  part_finds : (n : ℕ) → Finds (raisePartOf a v n).area (found_after (raisePartOf a v n).answer (ceiling a) v n)
+  part_finds : (n : ℕ) → Finds (raise_part_of a v n).area (found_after (raise_part_of a v n).answer (ceiling a) v n)
   part_finds n = let x = leaves n in rw x.last at (holds_finds x.holds)
 
-  pub part_keeps : (n : ℕ) → Kept a (raisePartOf a v n).area
+  pub part_keeps : (n : ℕ) → Kept a (raise_part_of a v n).area
   part_keeps n = let x = leaves n in record { formed = formed x.holds; grows = omega (arith, x.last, x.grows) }
 
   pub raise_survives : SurvivesCuts a v
@@ -178,9 +178,9 @@ module _ (a : List ℕ) (v : ℕ) (w : well_formed a ≡ true) (fit : v < 256 ^ 
 
 -- ---- of what the functions left
 
-module _ (a b : List ℕ) (x : Raised) (v : ℕ) (fit : v < 256 ^ 8) (s : Started) (f : s ≡ restartOf b) (w : well_formed a ≡ true) where
-  pub part_found : (n : ℕ) → left x b ≡ raisePartOf a v n → s ≡ start.Ready (counter (found_after x (ceiling a) v n))
+module _ (a b : List ℕ) (x : Raised) (v : ℕ) (fit : v < 256 ^ 8) (s : Started) (f : s ≡ restart_of b) (w : well_formed a ≡ true) where
+  pub part_found : (n : ℕ) → left x b ≡ raise_part_of a v n → s ≡ start.Ready (counter (found_after x (ceiling a) v n))
   part_found n e = f ∙ rw (ap (λ (l : Left). l.area) e, ap (λ (l : Left). l.answer) e) ((raise_survives a v w fit).cut n)
 
-  pub raise_found : left x b ≡ raiseOf a v → s ≡ start.Ready (counter (found_after x (ceiling a) v store_count))
+  pub raise_found : left x b ≡ raise_of a v → s ≡ start.Ready (counter (found_after x (ceiling a) v store_count))
   raise_found e = f ∙ rw (ap (λ (l : Left). l.area) e, ap (λ (l : Left). l.answer) e) (raise_survives a v w fit).whole

@@ -5,11 +5,11 @@ use Rattle.journal.specs.declared.Started.TheVariants as start
 use Rattle.journal.specs.declared.Raised.{Raised}
 use Rattle.journal.specs.declared.Raised.TheVariants as rise
 use Rattle.journal.specs.Stores.{store_count}
-use Rattle.journal.specs.Answers.{counter, restartOf, raiseOf, raisePartOf}
+use Rattle.journal.specs.Answers.{counter, restart_of, raise_of, raise_part_of}
 
 -- a restart is accepted on an area, and numbers begin at this ceiling
 abbrev pub Finds : List ℕ → ℕ → Type 0
-Finds a v = restartOf a ≡ start.Ready (counter v)
+Finds a v = restart_of a ≡ start.Ready (counter v)
 
 -- "the ceiling found is the old or the new one, and the new one once the raise is done": by what the raise answers and how many of its stores
 -- are made, the old one before the eleventh, and then the new one; the old one where it is refused
@@ -19,5 +19,5 @@ found_after rise.Refused old new n = old
 
 -- a raise to v on area a, cut after any number of stores, and whole
 pub record SurvivesCuts (a : List ℕ) (v : ℕ) : Type 0 where
-  pub cut : (n : ℕ) → Finds (raisePartOf a v n).area (found_after (raisePartOf a v n).answer (ceiling a) v n)
-  pub whole : Finds (raiseOf a v).area (found_after (raiseOf a v).answer (ceiling a) v store_count)
+  pub cut : (n : ℕ) → Finds (raise_part_of a v n).area (found_after (raise_part_of a v n).answer (ceiling a) v n)
+  pub whole : Finds (raise_of a v).area (found_after (raise_of a v).answer (ceiling a) v store_count)

@@ -2,7 +2,7 @@ use Rattle.fields.proofs.Laws.{number_turn, number_none, number_all, grows, fits
 use lib.Dec.{lit<}
 use native.Mathlib.Omega.{arith}
 use native.Mathlib.Nat.{sub_self}
-use Prim.Native.Nat.{◌-◌, ◌<◌}
+use Prim.Native.Nat.{◌-◌}
 use mathlib.Core.Path.{◌≡◌, sym, ◌∙◌}
 use Rattle.memory.proofs.load_at.Goals as goal
 
@@ -14,12 +14,12 @@ overflow_mul-value c = let l = c.loop-i in
     omega (arith, fits l.value (c.args.count - l.i) 7 (omega arith) l.invariant.1)
 
 pub overflow_add-value : goal.overflow_add-value
-overflow_add-value c = 
+overflow_add-value c =
     let l = c.loop-i in
     omega (arith, fits l.value (c.args.count - l.i) 7 (omega arith) l.invariant.1)
 
 pub loop-i-preserved : goal.loop-i-preserved
-loop-i-preserved c = 
+loop-i-preserved c =
     let l = c.loop-i in
     let n = c.args.count in
     let r = c.byte_at.result in (

@@ -6,7 +6,7 @@ use Rattle.region.proofs.Laws.{within_has, within_between, outside_between}
 use Rattle.memory.proofs.route_of.Goals as goal
 
 pub returns-then-contains-2 : goal.returns-then-contains-2
-returns-then-contains-2 c = 
+returns-then-contains-2 c =
     let g = c.args in
     let e = sym c.contains.ensures ∙ c.if-contains.true in
     record {
@@ -17,7 +17,7 @@ returns-then-contains-2 c =
     }
 
 pub returns : goal.returns
-returns c = 
+returns c =
     let g = c.args in
     record {
       each = λ k l m. outside_between g.window g.address (g.address + (g.count - 1)) k l (omega arith) (omega arith) (sym c.contains.ensures ∙ c.if-contains.false) (sym c.contains-2.ensures ∙ c.if-contains-3.false);

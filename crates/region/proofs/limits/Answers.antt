@@ -4,6 +4,6 @@ use Rattle.region.proofs.limits.Goals as goal
 
 pub returns : goal.returns
 returns c = record {
-      above = none_above c.args.region c.args.address (omega arith);
-      last = last_reaches;
-    }
+  above = none_above c.args.region c.args.address (omega arith);
+  last = last_reaches;
+}

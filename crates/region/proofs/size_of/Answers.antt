@@ -7,9 +7,9 @@ use Rattle.region.proofs.size_of.Goals as goal
 pub returns-then-code-eq0 : goal.returns-then-code-eq0
 unfolding size_of
 returns-then-code-eq0 c = record {
-      value = rw c.if-code-eq0.true;
-      bounded = omega arith;
-    }
+  value = rw c.if-code-eq0.true;
+  bounded = omega arith;
+}
 
 pub returns-then-code-le14 : goal.returns-then-code-le14
 returns-then-code-le14 c = let n = c.args.code in
