@@ -33,7 +33,7 @@ def lemma_files():
 
 
 def is_proof(path):
-    return os.path.basename(path).split(".")[0] in ("Proof", "Answers", "Invariants")
+    return "/proofs/" in path and os.path.basename(path).split(".")[0] in ("Proof", "Answers", "Invariants")
 
 
 def snake(name):

@@ -3,8 +3,8 @@ use Rattle.header.proofs.laws.Goals as goal
 
 pub returns : goal.returns
 returns c = record {
-      fills = table_fills;
-      words = words_back;
-      registers = registers_back;
-      nested = nested_back;
-    }
+  fills = table_fills;
+  words = words_back;
+  registers = registers_back;
+  nested = nested_back;
+}
