@@ -37,4 +37,7 @@ EventInNumbers = noted (event (Read 1 0) true (Value 0xab)) ≡ 0x000000ab000103
 pub record Replays (e : Edition) (trace : List ℕ) (x : Memories) (count : ℕ) (x' : Memories) (events₀ events : List ℕ) (reason : ℕ) : Type 0 where
   pub leaves : Leaves (script_of trace) (playing (reset_machine e) x trace) count x' events₀ events
   pub reason_is : reason ≡ reason_number (script_of trace).reason
-  pub word_is : get_or reason_words reason [] ≡ word_of (script_of trace).reason
+
+-- and of that number, that it finds the word
+abbrev pub SaysWord : List ℕ → ℕ → Type 0
+SaysWord trace reason = get_or reason_words reason [] ≡ word_of (script_of trace).reason

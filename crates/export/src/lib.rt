@@ -4,7 +4,7 @@
 ghost use Rattle.std.specs.Prelude.{◌≡◌};
 ghost use Rattle.settings.specs.declared.Edition.TheVariants.{Cx486, Mii};
 ghost use Rattle.memory.specs.Memory.{memories};
-ghost use Rattle.export.specs.Export.{reason_number, EventInNumbers, Replays};
+ghost use Rattle.export.specs.Export.{reason_number, EventInNumbers, Replays, SaysWord};
 
 use lines::Reason;
 use machine::Machine;
@@ -31,8 +31,9 @@ fn replay(
     events: &mut [u64; 10000],
     reason: &mut u8,
 ) -> usize
-    ensures { Replays edition trace.now (memories main.old management.old)
+    ensures replays { Replays edition trace.now (memories main.old management.old)
         result (memories main.new management.new) events.old events.new reason.new }
+    ensures word { SaysWord trace.now reason.new }
 {
     let played = player::play(trace, Machine::initial(edition), main, management, events);
     let why = played.reason;
@@ -49,8 +50,9 @@ pub extern "C" fn rostuvlad_replay(
     events: &mut [u64; 10000],
     reason: &mut u8,
 ) -> usize
-    ensures { Replays Cx486 trace.now (memories main.old management.old)
+    ensures replays { Replays Cx486 trace.now (memories main.old management.old)
         result (memories main.new management.new) events.old events.new reason.new }
+    ensures word { SaysWord trace.now reason.new }
 {
     replay(Edition::Cx486, trace, main, management, events, reason)
 }
@@ -64,8 +66,9 @@ pub extern "C" fn rostuvlad_replay_mii(
     events: &mut [u64; 10000],
     reason: &mut u8,
 ) -> usize
-    ensures { Replays Mii trace.now (memories main.old management.old)
+    ensures replays { Replays Mii trace.now (memories main.old management.old)
         result (memories main.new management.new) events.old events.new reason.new }
+    ensures word { SaysWord trace.now reason.new }
 {
     replay(Edition::Mii, trace, main, management, events, reason)
 }

@@ -14,12 +14,12 @@ words_agree why.Limit = refl
 words_agree why.Torn = refl
 words_agree why.Bad = refl
 
-pub returns : goal.returns
-returns c =
+pub returns-clause-replays : goal.returns-clause-replays
+returns-clause-replays c =
     let w = rw c.initial.ensures at c.play-played.ensures in
-    let n = c.reason_number.ensures in
-    record {
-      leaves = w.leaves;
-      reason_is = n ∙ ap reason_number w.reason_is;
-      word_is = ap (λ (k : ℕ). get_or reason_words k []) n ∙ words_agree c.play-played.result.reason ∙ ap word_of w.reason_is;
-    }
+    record { leaves = w.leaves; reason_is = c.reason_number.ensures ∙ ap reason_number w.reason_is }
+
+pub returns-clause-word : goal.returns-clause-word
+returns-clause-word c =
+    let w = rw c.initial.ensures at c.play-played.ensures in
+    ap (λ (k : ℕ). get_or reason_words k []) c.reason_number.ensures ∙ words_agree c.play-played.result.reason ∙ ap word_of w.reason_is
