@@ -1,5 +1,5 @@
 -- 01, "What the machine holds" and "Reset", and 02, request 1: the machine, the machine with one thing of it changed, and after a reset.
-use Rattle.std.specs.Prelude.{ℕ, Bool, true, false, cond, [], ◌∷◌}
+use Rattle.std.specs.Prelude.{Bool, true, false, cond, [], ◌∷◌}
 use Rattle.fields.specs.Fields.{number_by, number}
 use Rattle.memory.specs.declared.Segment.{Segment}
 use Rattle.memory.specs.Memory.{segment}

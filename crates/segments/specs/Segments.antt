@@ -1,7 +1,7 @@
 -- 01, "What the machine holds", "Opcode" and "Reset": the segment registers by their names. CS is held apart from the seven others, among the
 -- registers that entry saves.
 use Rattle.std.specs.Prelude.{Bool, true, false, [], ◌∷◌}
-use Rattle.fields.specs.Fields.{number_by, number}
+use Rattle.fields.specs.Fields.{number}
 use Rattle.memory.specs.declared.Segment.{Segment}
 use Rattle.memory.specs.Memory.{segment}
 use Rattle.segments.specs.declared.SegmentName.{SegmentName}

@@ -1,7 +1,7 @@
 -- The lock: what a write outside the mode leaves as it was, and what the locked bits are. Assumes nothing.
 use mathlib.Core.Path.{◌≡◌, refl, sym, ap, subst, ◌∙◌}
 use mathlib.Core.Bool.{Bool, true, false, cond, ◌||◌}
-use Prim.Native.Nat.{ℕ, zero, suc, ◌+◌, ◌*◌, ◌/◌, ◌%◌, ◌^◌, ◌-◌, ◌≤◌, ◌<◌, min, max}
+use Prim.Native.Nat.{ℕ, zero, suc, ◌+◌, ◌*◌, ◌/◌, ◌%◌, ◌^◌, ◌-◌, ◌<◌, min, max}
 use native.Mathlib.Nat.{pow-suc, lt_of_le_of_lt}
 use native.Mathlib.Omega.{arith}
 use lib.Arith.{lt-one}

@@ -1,12 +1,10 @@
 -- Where the header lies, what the locked bits say of it, and routing outside the mode. Assumes nothing.
-use mathlib.Core.Path.{◌≡◌, refl, sym, ap, ◌∙◌}
-use mathlib.Core.Bool.{Bool, true, false, cond, not, ◌&&◌, and-false, and-eq-true_iff, true≢false}
+use mathlib.Core.Path.{◌≡◌, refl}
+use mathlib.Core.Bool.{true, false, and-false, and-eq-true_iff}
 use Prim.Native.Nat.{ℕ, ◌+◌, ◌*◌, ◌/◌, ◌≤◌}
 use native.Mathlib.Omega.{arith}
-use lib.Dec.{leb, ltb}
-use borrow.Author.Tests.{leb-true, le-leb, lt-leb, ltb-true}
-use Rattle.region.specs.declared.Region.{Region}
-use Rattle.region.specs.Region.{region_of, size_of, usable, within}
+use borrow.Author.Tests.{leb-true, le-leb, lt-leb}
+use Rattle.region.specs.Region.{size_of, usable, within}
 use Rattle.region.proofs.Usable.{usable_has}
 use Rattle.region.proofs.Laws.{within_has, within_is}
 use Rattle.fields.specs.Fields.{number_by}
@@ -14,8 +12,8 @@ use Rattle.header.specs.Header.{header_length}
 use Rattle.settings.specs.declared.Edition.{Edition}
 use Rattle.settings.specs.declared.Edition.TheVariants.{Cx486, Mii}
 use Rattle.settings.specs.declared.Settings.{Settings}
-use Rattle.settings.specs.Settings.{is_mii, use_smi, smac, smhr, region_in, window_of, header_end, header_fits, header_place, enabled, byte_of, with_smhr, SameLocked}
-use Rattle.settings_laws.specs.Locked.{Fixed486, FixedMii, Fixed, SettingsFit}
+use Rattle.settings.specs.Settings.{use_smi, smac, smhr, region_in, window_of, header_end, header_fits, header_place, enabled, byte_of, with_smhr, SameLocked}
+use Rattle.settings_laws.specs.Locked.{Fixed486, Fixed, SettingsFit}
 use Rattle.settings_laws.specs.Headers.{EndsByEdition, PlaceBelowEnd, FitsWithin, FitsAlways, FitsNever, SmhrAtIndexes, SmhrLoaded}
 use Rattle.settings_laws.proofs.Lock.{locked_as_listed}
 

@@ -3,8 +3,8 @@ use Rattle.config.proofs.raw_numbers.Goals as goal
 
 pub returns : goal.returns
 returns c = record {
-      others = other_ports;
-      index = port_of_index;
-      «data» = port_of_data;
-      internal = internal_by_number;
-    }
+  others = other_ports;
+  index = port_of_index;
+  «data» = port_of_data;
+  internal = internal_by_number;
+}

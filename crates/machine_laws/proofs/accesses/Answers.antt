@@ -3,8 +3,8 @@ use Rattle.machine_laws.proofs.accesses.Goals as goal
 
 pub returns : goal.returns
 returns c = record {
-      whole = whole_by_cells;
-      reads = reads_by_cells;
-      writes = writes_by_cells;
-      operands = operands_by_cells;
-    }
+  whole = whole_by_cells;
+  reads = reads_by_cells;
+  writes = writes_by_cells;
+  operands = operands_by_cells;
+}

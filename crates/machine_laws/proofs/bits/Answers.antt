@@ -3,6 +3,6 @@ use Rattle.machine_laws.proofs.bits.Goals as goal
 
 pub returns : goal.returns
 returns c = record {
-      valid = valid_by_bits;
-      ports = ports_by_config;
-    }
+  valid = valid_by_bits;
+  ports = ports_by_config;
+}

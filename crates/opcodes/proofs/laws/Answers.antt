@@ -4,10 +4,10 @@ use Rattle.opcodes.proofs.laws.Goals as goal
 
 pub returns : goal.returns
 returns c = record {
-      rsm = resumed_by;
-      saved = saved_by;
-      cs = cs_not_restored;
-      seven = seven_restored;
-      sized = sized_by_bytes;
-      allowed = allowed_by_bits;
-    }
+  rsm = resumed_by;
+  saved = saved_by;
+  cs = cs_not_restored;
+  seven = seven_restored;
+  sized = sized_by_bytes;
+  allowed = allowed_by_bits;
+}

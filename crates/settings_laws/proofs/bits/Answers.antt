@@ -3,8 +3,8 @@ use Rattle.settings_laws.proofs.bits.Goals as goal
 
 pub returns : goal.returns
 returns c = record {
-      window = window_routes;
-      routed = routed_by_bits;
-      enabled = enabled_by_bits;
-      ccr3 = ccr3_by_bits;
-    }
+  window = window_routes;
+  routed = routed_by_bits;
+  enabled = enabled_by_bits;
+  ccr3 = ccr3_by_bits;
+}

@@ -3,9 +3,9 @@ use Rattle.settings_laws.proofs.indexes.Goals as goal
 
 pub returns : goal.returns
 returns c = record {
-      stored = stored_at;
-      elsewhere = zero_elsewhere;
-      back = read_back;
-      smhr = smhr_stored_lem;
-      masks = masks_listed;
-    }
+  stored = stored_at;
+  elsewhere = zero_elsewhere;
+  back = read_back;
+  smhr = smhr_stored_lem;
+  masks = masks_listed;
+}

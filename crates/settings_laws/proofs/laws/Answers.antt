@@ -5,12 +5,12 @@ use Rattle.settings_laws.proofs.laws.Goals as goal
 -- src/lib.rt:11:1
 pub returns : goal.returns
 returns c = record {
-      locked = locked_as_listed;
-      ends = ends_by_edition;
-      place = place_below_end;
-      within = fits_within;
-      always = fits_always;
-      never = fits_never;
-      indexes = smhr_at_indexes;
-      loaded = smhr_loaded_lem;
-    }
+  locked = locked_as_listed;
+  ends = ends_by_edition;
+  place = place_below_end;
+  within = fits_within;
+  always = fits_always;
+  never = fits_never;
+  indexes = smhr_at_indexes;
+  loaded = smhr_loaded_lem;
+}

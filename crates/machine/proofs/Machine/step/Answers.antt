@@ -10,8 +10,6 @@ pub returns-in-Refused : goal.returns-in-Refused
 returns-in-Refused c = rw (c.answers.ensures) (step_refused _ _ _ _ _ c.anew-m.ensures c.first_refusal.ensures _ c.in-Refused.is)
 
 pub returns-in-Allowed : goal.returns-in-Allowed
-returns-in-Allowed c = 
-    
-    
+returns-in-Allowed c =
     step_allowed _ _ _ _ _ c.anew-m.ensures c.first_refusal.ensures c.in-Allowed.is _
     c.perform.ensures
