@@ -1,18 +1,24 @@
--- What a call leaves is in a history again, and what it answers is what is promised. Assumes nothing.
+-- What a call leaves is in a history again, and what it answers is what is promised, of any area and after every history. Assumes nothing.
 use mathlib.Core.Path.{◌≡◌, sym, ap, ◌∙◌}
-use mathlib.Core.List.{List}
-use Prim.Native.Nat.{ℕ}
+use mathlib.Core.List.{List, [], ◌∷◌, ◌++◌}
+use Prim.Native.Nat.{ℕ, ◌<◌}
 use native.Mathlib.Omega.{arith}
+use borrow.Author.Tests.{ne_eqb, lt-leb}
+use Rattle.slots.specs.Area.{slot_count, first_free, ceiling_before, ceiling}
+use Rattle.slots.proofs.Holding.{Holds, formed, first_free_lem, ceiling_is}
 use Rattle.journal.specs.declared.Counter.{Counter}
 use Rattle.journal.specs.declared.Started.{Started}
 use Rattle.journal.specs.declared.Handed.{Handed}
 use Rattle.journal.specs.declared.Handed.TheVariants as hand
 use Rattle.journal.specs.declared.Raised.{Raised}
+use Rattle.journal.specs.declared.Raised.TheVariants as rise
 use Rattle.journal.specs.Stores.{store_count}
-use Rattle.journal.specs.Answers.{restart_of, next_of, Left, left, raise_of, raise_part_of}
-use Rattle.histories.specs.Histories.{IsU64, restart, next, raise, part}
-use Rattle.histories.specs.Closed.{RestartGoesOn, RestartKept, NextGoesOn, RaiseGoesOn, RaiseKept, NoneTwice}
-use Rattle.histories.proofs.Every.{every_history}
+use Rattle.journal.specs.Answers.{restart_of, next_of, refuses_raise, Left, left, raise_of, raise_part_of}
+use Rattle.recovery.specs.Cuts.{Finds, found_after}
+use Rattle.histories.specs.Histories.{off, on, IsU64, fresh, restart, next, raise, part}
+use Rattle.histories.specs.Closed.{RestartGoesOn, RestartKept, NextGoesOn, RaiseGoesOn, RaiseKept, NoneTwice, RestartHeld, NextIsAbove, FoundAround, RaiseHeld, FirstRaise}
+use Rattle.histories.proofs.Lists.{last_above}
+use Rattle.histories.proofs.Every.{every_history, fresh_holds}
 
 pub restart_goes_on : (a : List ℕ) → RestartGoesOn a
 restart_goes_on a r ns h = restart h (every_history a r ns h).restarts
@@ -40,3 +46,39 @@ module _ (a b : List ℕ) (x : Raised) (v : ℕ) (w : IsU64 v) where
 
 pub none_twice : NoneTwice
 none_twice a ns p i j l o e = let r = p.rises i j l o in absurd (omega arith)
+
+-- ---- after every history
+
+pub restart_held : (a : List ℕ) (s : Started) → s ≡ restart_of a → RestartHeld a s
+restart_held a s e r ns h = e ∙ (every_history a r ns h).restarts
+
+pub next_is_above : (a : List ℕ) (c : Counter) (x : Handed) → x ≡ next_of c a → NextIsAbove a c x
+next_is_above a c (hand.Number n c') e ns h = last_above ns n c' (every_history a (on c') (ns ++ (n ∷ [])) (next h (sym e))).rises
+next_is_above a c hand.Refused e ns h = tt
+
+-- an area with no ceiling accepts a raise to every value above 0
+first_done : (a : List ℕ) (v : ℕ) → Holds a 0 → 0 < v → (raise_of a v).answer ≡ rise.Done
+unfolding raise_of refuses_raise ceiling_before
+first_done a v h l =
+    let c : ceiling a ≡ 0 = ceiling_is h in
+    rw (formed h, ne_eqb (first_free a) slot_count (λ e. omega (arith, first_free_lem h)), lt-leb v (ceiling a) (omega arith))
+
+-- a raise that left b and answered x, and the restart after it
+module _ (a b : List ℕ) (x : Raised) (v : ℕ) (w : IsU64 v) (after : Started) (f : after ≡ restart_of b) where
+  pub first_raise : left x b ≡ raise_of a v → FirstRaise a v x after
+  first_raise g z l =
+      let d : x ≡ rise.Done = ap (λ (k : Left). k.answer) g ∙ first_done a v (rw z fresh_holds) l in
+      let p = ((every_history a off [] (rw z fresh)).raises v w).whole in
+      (d, f ∙ rw (ap (λ (k : Left). k.area) g) (rw (sym (ap (λ (k : Left). k.answer) g) ∙ d) at p))
+
+  -- and the restart before it
+  module _ (before : Started) (e : before ≡ restart_of a) where
+    around : (n : ℕ) (l : Left) → left x b ≡ l → Finds a (ceiling a) → Finds l.area (found_after l.answer (ceiling a) v n)
+        → FoundAround before v n x after
+    around n l g old new = rw (e ∙ old, f) (rw (ap (λ (k : Left). k.area) g, ap (λ (k : Left). k.answer) g) new)
+
+    pub raise_held : left x b ≡ raise_of a v → RaiseHeld a v store_count before x after
+    raise_held g r ns h = let p = every_history a r ns h in around store_count _ g p.restarts (p.raises v w).whole
+
+    pub part_held : (n : ℕ) → left x b ≡ raise_part_of a v n → RaiseHeld a v n before x after
+    part_held n g r ns h = let p = every_history a r ns h in around n _ g p.restarts ((p.raises v w).cut n)

@@ -7,7 +7,10 @@ use native.Mathlib.Omega.{arith}
 use borrow.Author.Tests.{ltb-true, ltb-false}
 use lib.Dec.{ltb}
 use lib.ListN.{length, get_or, length-append}
+use Rattle.journal.specs.declared.Counter.{Counter}
+use Rattle.journal.specs.declared.Handed.TheVariants as hand
 use Rattle.histories.specs.Histories.{StrictlyRising}
+use Rattle.histories.specs.Closed.{NumberIsAbove}
 
 -- every number of a list is below b
 abbrev pub AllBelow : List ℕ → ℕ → Type 0
@@ -48,3 +51,7 @@ rises_last ns n f r i j l o = by (ltb j (length ns)) refl
     by false q =
         let e : j ≡ length ns = omega (arith, ltb-false j (length ns) q, last_length ns n) in
         rw (last_front ns n i (omega arith), e, last_back ns n) (f i (omega arith))
+
+-- the last of a list that rises is above the others
+pub last_above : (ns : List ℕ) (n : ℕ) (c : Counter) → StrictlyRising (ns ++ (n ∷ [])) → NumberIsAbove ns (hand.Number n c)
+last_above ns n c r i l = rw (last_front ns n i l, last_back ns n) at (r i (length ns) l (omega (arith, last_length ns n)))
