@@ -13,7 +13,7 @@ use Rattle.trace.specs.Trace.{part, found_at}
 use Rattle.trace.proofs.Finding.{Within, found_end, found_within}
 use Rattle.lines.specs.declared.Reason.{Reason}
 use Rattle.lines.specs.declared.Reason.TheVariants as why
-use Rattle.scripts.specs.Scripts.{Script, is_end, stops, follows, joins, repeated, grouped, read_by, read_from, rest, within, Unbounded}
+use Rattle.scripts.specs.Scripts.{Script, is_end, stops, follows, joins, repeated, grouped, read_by, read_from, rest, within, Unbounded, ReadsOn}
 
 pub found_past : (l : List ℕ) (at : ℕ) (f : Found) → found_at l at ≡ f → Within l at f
 found_past l at f e = rw e at (found_within l at)
@@ -58,6 +58,9 @@ module _ (inner : List ℕ → Script) (l : List ℕ) where
 
 pub unbounded : Unbounded
 unbounded d l at = rest_found (within d) l at (found_at l at) refl
+
+pub reads_on : ReadsOn
+reads_on inner l at = rest_found inner l at (found_at l at) refl
 
 -- a group's list is read as the list of a level less
 pub within_all : (depth : ℕ) (l : List ℕ) → 0 < depth → rest (within (depth - 1)) l 0 ≡ within depth l

@@ -1,8 +1,8 @@
 -- A list that reads to its end, and then another; and a group as its list written out. Assumes nothing.
 use mathlib.Core.Path.{◌≡◌, refl, sym, ap, ◌∙◌}
 use mathlib.Core.Bool.{Bool, true, false, cond}
-use mathlib.Core.List.{List, [], ◌++◌, append-nil, append_assoc}
-use Prim.Native.Nat.{ℕ, zero, suc, ◌+◌, ◌-◌, ◌<◌, ◌≤◌}
+use mathlib.Core.List.{List, [], ◌∷◌, ◌++◌, append-nil, append_assoc}
+use Prim.Native.Nat.{ℕ, zero, suc, ◌+◌, ◌-◌, ◌*◌, ◌<◌, ◌≤◌}
 use native.Mathlib.Omega.{arith}
 use borrow.Author.Tests.{lt-leb, ne_eqb}
 use lib.ListN.{length, length-append}
@@ -15,9 +15,9 @@ use Rattle.trace.specs.Trace.{part, group_kind, group_of, found_at, frame_at, fr
 use Rattle.trace.proofs.Finding.{Within, found_within, frame_whole, found_group}
 use Rattle.trace.proofs.Placing.{found_on, Closed, between, part_on, found_on_lem}
 use Rattle.lines.specs.declared.Reason.TheVariants as why
-use Rattle.scripts.specs.Scripts.{Script, group_levels, is_end, stops, follows, joins, repeated, grouped, read_by, read_from, rest, within}
+use Rattle.scripts.specs.Scripts.{Script, group_levels, is_end, stops, follows, joins, repeated, grouped, read_by, read_from, rest, within, whole, MoreLevels}
 use Rattle.scripts.specs.Former.{one_wake}
-use Rattle.scripts.specs.Written.{copies, group_bytes, nested, Concatenates, WrittenOut, EightLevels, Writable, Written, CountsWritten}
+use Rattle.scripts.specs.Written.{copies, group_bytes, nested, Concatenates, WrittenOut, EightLevels, Writable, Written, CountsWritten, grouping, ReadAlike, EveryCountWritten, GroupsWritten}
 use Rattle.scripts.proofs.Reading.{rest_found, false_true}
 
 -- from the last place of a list back to its first
@@ -136,10 +136,17 @@ module _ (inner more : List ℕ → Script) (same : (l : List ℕ) → is_end (i
       from_first (length l) (λ at. Same at (rest inner l at))
       (λ at h k. rw (rest_found inner l at (found_at l at) refl) (same_by at (found_at l at) refl (found_within l at) k))
 
-level : (d : ℕ) (l : List ℕ) → is_end (within d l).reason ≡ true → rest (within d) l 0 ≡ within d l
+one_more : (d : ℕ) (l : List ℕ) → is_end (within d l).reason ≡ true → within (suc d) l ≡ within d l
 unfolding within
-level zero l e = absurd (false_true e)
-level (suc d) l e = same_rest (within d) (within (suc d)) (level d) l e
+one_more zero l e = absurd (false_true e)
+one_more (suc d) l e = same_rest (within d) (within (suc d)) (one_more d) l e
+
+pub more_levels : MoreLevels
+more_levels d zero l e = let z : 0 + d ≡ d = omega arith in rw z
+more_levels d (suc more) l e =
+    let s : suc more + d ≡ suc (more + d) = omega arith in
+    let f = more_levels d more l e in
+    rw s (one_more (more + d) l (ap (λ (u : Script). is_end u.reason) f ∙ e) ∙ f)
 
 -- ---- a list as often as a count says
 
@@ -198,9 +205,10 @@ module _ (count : ℕ) (l q : List ℕ) where
           ∙ sound_group count (inner l) (rest inner q 0) i
 
 pub written_out : WrittenOut
+unfolding within
 written_out count p l q some few held small i j =
     let d = group_levels in
-    let e = level d l j in
+    let e : rest (within d) l 0 ≡ within d l = more_levels d 1 l j in
     ap (λ (m : List ℕ). rest (within d) m 0) (append_assoc p (group_bytes count l) q)
     ∙ concatenates d p (group_bytes count l ++ q) i
     ∙ ap (joins (rest (within d) p 0).steps)
@@ -226,3 +234,51 @@ counts_written = (at 1 (omega arith) (omega arith), at 65535 (omega arith) (omeg
   where
     at : (count : ℕ) → 0 < count → count < 65536 → Written count
     at count h k = written_out count one_wake one_wake one_wake h k (omega arith) (omega arith) one_wake_writable.0 one_wake_writable.1
+
+wake_ends : is_end (rest (within 7) one_wake 0).reason ≡ true
+unfolding read_from found_at frame_at framed record_of record_by number_by
+wake_ends = refl
+
+copies_end : (inner : List ℕ → Script) (l : List ℕ) (n : ℕ) → is_end (rest inner l 0).reason ≡ true → is_end (rest inner (copies n l) 0).reason ≡ true
+unfolding read_from
+copies_end inner l n i =
+    ap (λ (m : List ℕ). is_end (rest inner m 0).reason) (sym (append-nil (copies n l)))
+    ∙ ap (λ (u : Script). is_end u.reason) (read_copies inner l [] i n)
+
+-- a list that may stand in a group and before it
+pub record Sound (l : List ℕ) : Type 0 where
+  pub some : 0 < length l
+  pub small : length l + 4 < 65536
+  pub before : is_end (whole l).reason ≡ true
+  pub inside : is_end (within group_levels l).reason ≡ true
+
+sound : (l : List ℕ) → 0 < length l → length l + 4 < 65536 → is_end (within group_levels l).reason ≡ true → Sound l
+unfolding within
+sound l h k e = record { some = h; small = k; before = ap (λ (u : Script). is_end u.reason) (more_levels group_levels 1 l e) ∙ e; inside = e }
+
+wakes_length : (n : ℕ) → length (copies n one_wake) ≡ 4 * n
+unfolding copies
+wakes_length zero = refl
+wakes_length (suc n) = omega (arith, length-append one_wake (copies n one_wake), wakes_length n)
+
+pub wakes_sound : (n : ℕ) → 0 < n → n < 16383 → Sound (copies n one_wake)
+unfolding within
+wakes_sound n h k =
+    sound (copies n one_wake) (omega (arith, wakes_length n)) (omega (arith, wakes_length n)) (copies_end (within 7) one_wake n wake_ends)
+
+pub grouping_sound : Sound grouping
+unfolding group_bytes bytes_of repeated within read_from found_at frame_at framed group_of record_of record_by number_by
+grouping_sound = sound grouping (omega arith) (omega arith) refl
+
+read_alike : (count : ℕ) (l : List ℕ) → 0 < count → count < 65536 → Sound l → ReadAlike count l
+read_alike count l h k s = written_out count l l (l ++ (2 ∷ [])) h k s.some s.small s.before s.inside
+
+pub every_count_written : EveryCountWritten
+every_count_written count n h k some few = read_alike count (copies n one_wake) h k (wakes_sound n some few)
+
+sixty : length (whole (grouping ++ group_bytes 5 grouping)).steps ≡ 60
+unfolding group_bytes bytes_of repeated within read_from found_at frame_at framed group_of record_of record_by number_by
+sixty = refl
+
+pub groups_written : GroupsWritten
+groups_written = (read_alike 5 grouping (omega arith) (omega arith) grouping_sound, sixty)

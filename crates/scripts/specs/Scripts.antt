@@ -1,5 +1,5 @@
 -- 01, "Trace player", and 02, request 6: the steps that a trace holds, with its groups written out in full, and why the player stops.
-use Rattle.std.specs.Prelude.{◌≡◌, ℕ, zero, suc, Bool, true, false, cond, List, [], ◌∷◌, ◌++◌, leb, ltb, length, take}
+use Rattle.std.specs.Prelude.{◌≡◌, ℕ, zero, suc, ◌+◌, Bool, true, false, cond, List, [], ◌∷◌, ◌++◌, leb, ltb, length, take}
 use Rattle.steps.specs.declared.Step.{Step}
 use Rattle.trace.specs.declared.Found.{Found}
 use Rattle.trace.specs.declared.Found.TheVariants.{Record, Group, End, Torn, Bad}
@@ -75,6 +75,14 @@ whole trace = rest (within group_levels) trace 0
 -- Reading a list from a place on is what stands there, and then reading on: so the bound of `read_from` doesn't show.
 abbrev pub Unbounded : Type 0
 Unbounded = (d : ℕ) (l : List ℕ) (at : ℕ) → rest (within d) l at ≡ read_by (found_at l at) l (within d) (rest (within d) l)
+
+-- the same where any reading of the lists of groups is given
+abbrev pub ReadsOn : Type 0
+ReadsOn = (inner : List ℕ → Script) (l : List ℕ) (at : ℕ) → rest inner l at ≡ read_by (found_at l at) l inner (rest inner l)
+
+-- More levels change nothing for a list that is read to its end with fewer.
+abbrev pub MoreLevels : Type 0
+MoreLevels = (d more : ℕ) (l : List ℕ) → is_end (within d l).reason ≡ true → within (more + d) l ≡ within d l
 
 -- ---- The limit, on the steps that are read.
 

@@ -48,3 +48,26 @@ Written count = whole (one_wake ++ group_bytes count one_wake ++ one_wake) ≡ w
 
 abbrev pub CountsWritten : Type 0
 CountsWritten = Written 1 × Written 65535
+
+-- ---- the same for every count, for longer lists, and for a list with groups in it
+
+-- a group of a list, after that list, and before it once more and a byte that is torn; and the same written out
+abbrev pub by_group : ℕ → List ℕ → List ℕ
+by_group count l = l ++ group_bytes count l ++ (l ++ (2 ∷ []))
+
+abbrev pub in_full : ℕ → List ℕ → List ℕ
+in_full count l = l ++ copies count l ++ (l ++ (2 ∷ []))
+
+abbrev pub ReadAlike : ℕ → List ℕ → Type 0
+ReadAlike count l = whole (by_group count l) ≡ whole (in_full count l)
+
+-- every count, and as many wakes as a group has room for
+abbrev pub EveryCountWritten : Type 0
+EveryCountWritten = (count n : ℕ) → 0 < count → count < 65536 → 0 < n → n < 16383 → ReadAlike count (copies n one_wake)
+
+-- a list with groups in it: a wake, and three times a wake and a group that has it twice
+abbrev pub grouping : List ℕ
+grouping = one_wake ++ group_bytes 3 (one_wake ++ group_bytes 2 one_wake)
+
+abbrev pub GroupsWritten : Type 0
+GroupsWritten = ReadAlike 5 grouping × (length (whole (grouping ++ group_bytes 5 grouping)).steps ≡ 60)

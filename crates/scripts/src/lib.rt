@@ -2,9 +2,9 @@
 #![tactic(auto)]
 
 ghost use Rattle.std.specs.Prelude.{◌≡◌};
-ghost use Rattle.scripts.specs.Scripts.{is_end, within, Unbounded};
+ghost use Rattle.scripts.specs.Scripts.{is_end, within, Unbounded, ReadsOn, MoreLevels};
 ghost use Rattle.scripts.specs.Former.{UpToGroups, Groupless, SameAsFormerly, one_wake};
-ghost use Rattle.scripts.specs.Written.{Concatenates, WrittenOut, Writable, CountsWritten, EightLevels};
+ghost use Rattle.scripts.specs.Written.{Concatenates, WrittenOut, Writable, CountsWritten, EightLevels, EveryCountWritten, GroupsWritten};
 
 use trace::Passed;
 
@@ -51,4 +51,8 @@ fn laws()
     ensures writable { Writable one_wake }
     ensures counts { CountsWritten }
     ensures levels { EightLevels }
+    ensures reads_on { ReadsOn }
+    ensures more_levels { MoreLevels }
+    ensures every_count { EveryCountWritten }
+    ensures in_groups { GroupsWritten }
 {}
