@@ -1,1 +1,4 @@
 pub mod Replays
+pub mod Texts
+pub mod Written
+pub mod Example
