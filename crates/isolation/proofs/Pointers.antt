@@ -23,7 +23,7 @@ use Rattle.machine.specs.Steps.{stepped}
 use Rattle.isolation.specs.Widths.{MachineFits}
 use Rattle.isolation.specs.Service.{answer_to, Entering, recorded, PointersAsStated}
 use Rattle.isolation.specs.Service.Entering.{at_boundary}
-use Rattle.isolation.specs.Tightness.{PointersDetermine}
+use Rattle.isolation.specs.Tightness.{PointersDetermine, PointersRecorded}
 use Rattle.fields.proofs.Cases.{either, unlike}
 use Rattle.isolation.proofs.Entering.{room, enters}
 use Rattle.isolation.proofs.Service.{answered_allowed, recorded_fits, one_way, resumes_as_entered}
@@ -89,3 +89,9 @@ pointers_determine m smi current i e o formed p =
     either P (trap_of i).rep
     (λ k. let q = p.rep k in rw (rep_awake m.halted smi current i formed k) (q.current_ip, q.next_ip, q.eip))
     (λ k. let q = p.other k in (q.current_ip, q.next_ip, q.eip))
+
+pub pointers_recorded : PointersRecorded
+pointers_recorded m x smi current i modrm a next f w h =
+    let s = Boundary smi current i in
+    pointers_determine m smi current i _ _ (allowed_taken m.halted x s (answered_allowed m x s (omega (arith, h)))).formed
+    (pointers_as_stated m x smi current i modrm a next f w h)

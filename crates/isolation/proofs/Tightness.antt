@@ -4,10 +4,10 @@ use mathlib.Core.Bool.{Bool, true, false}
 use mathlib.Core.List.{List, [], ◌∷◌, ◌++◌}
 use Prim.Native.Nat.{ℕ, zero, suc, ◌+◌, ◌-◌, ◌/◌, ◌%◌}
 use native.Mathlib.Omega.{arith}
-use lib.Dec.{ltb}
+use lib.Dec.{eqb, ltb}
 use lib.ListN.{length, get_or, length-append}
 use lib.Seq.{sets, length-sets, ext_get_or, take-length, get_or-append_seam}
-use borrow.Author.Tests.{ltb-true, ltb-false, eq-eqb, ne_eqb}
+use borrow.Author.Tests.{ltb-true, ltb-false, eqb-true, eqb-false, eq-eqb, ne_eqb}
 use Rattle.fields.proofs.Storing.{stored_below, stored_byte, stored_above}
 use Rattle.memory.specs.Memory.{memories}
 use Rattle.steps.specs.declared.Answer.{Answer}
@@ -21,10 +21,10 @@ use Rattle.header.specs.Entry.{entry_registers}
 use Rattle.machine.specs.declared.Machine.{Machine}
 use Rattle.machine.specs.Machines.{machine, settings_of}
 use Rattle.machine.specs.Outcomes.{gives, ends}
-use Rattle.machine.specs.Service.{entered_machine, entry, resume}
+use Rattle.machine.specs.Service.{entered_machine, entry, passed, resume}
 use Rattle.runs.specs.Runs.{Run, run, answers_of}
 use Rattle.isolation.specs.Isolation.{NoReset, UpToEntry, Agree, through_entry}
-use Rattle.isolation.specs.Tightness.{StartAsked, NoResetAsked, UpToEntryAsked, LastIsLast, NoEntry, ThroughEntryAsked, WholeList, HeaderDetermines, EntryDetermines, ResumptionDetermines, ResumeDetermines, second, AgreementDetermines}
+use Rattle.isolation.specs.Tightness.{StartAsked, NoResetAsked, UpToEntryAsked, LastIsLast, NoEntry, ThroughEntryAsked, WholeList, HeaderDetermines, EntryDetermines, ResumptionDetermines, ResumeDetermines, PassingDetermines, second, AgreementDetermines}
 use Rattle.isolation.proofs.Isolation.{isolated}
 
 -- ---- the hypotheses ask for no more
@@ -131,6 +131,15 @@ pub resume_determines : ResumeDetermines
 resume_determines m s by e o r =
     let a = (numbered o.stepped.answer).1 r.answer in
     λ i. ends (gives (machine (r.registers i) (r.segments i) (r.halted i) (r.inside i) (r.latched i) (r.config i)) (a i)) (r.memory i)
+
+pub passing_determines : PassingDetermines
+unfolding passed
+passing_determines m x smi o p = go (eqb smi 1) m.inside refl refl
+  where
+    go : (a b : Bool) → eqb smi 1 ≡ a → m.inside ≡ b → o ≡ ends (passed m (eqb smi 1)) x
+    go true true e f = p.latched (eqb-true smi 1 e) f ∙ rw (e, f)
+    go true false e f = p.ignored (eqb-true smi 1 e) f ∙ rw (e, f)
+    go false b e f = p.nothing (eqb-false smi 1 e) ∙ rw e
 
 second_is : {m : Machine} {g h : List ℕ} {a b : Run} → Agree m g h a b → (l : List ℕ) → b.memory.management ≡ l → b ≡ second a l
 second_is c l e = λ i. record { machine = sym c.machine i; memory = memories (sym c.main i) (e i); events = sym c.events i }

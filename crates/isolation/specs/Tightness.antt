@@ -1,15 +1,16 @@
 -- How tight the statements are (01): for each hypothesis and each definition that stands only in a claim, a law that fails where it asks for
 -- more or says less. `Entering` and `Resuming` need none here, as the theorems go both ways between them and the answers 11 and 12; the
 -- widths have theirs in the functions `widths` of steps and of this crate.
-use Rattle.std.specs.Prelude.{ℕ, ◌/◌, ◌%◌, ◌<◌, ◌≡◌, false, List, [], ◌∷◌, ◌++◌, length, get_or}
+use Rattle.std.specs.Prelude.{ℕ, ◌/◌, ◌%◌, ◌<◌, ◌≡◌, false, List, [], ◌∷◌, ◌++◌, eqb, length, get_or}
 use Rattle.std.proofs.lemmas.List.Edits.{sets}
 use Rattle.memory.specs.Memory.{Memories, memories}
 use Rattle.steps.specs.declared.Answer.{Answer}
 use Rattle.steps.specs.declared.Answer.TheVariants.{Done, Resumed}
 use Rattle.steps.specs.declared.Step.{Step}
-use Rattle.steps.specs.declared.Step.TheVariants.{Reset, Boundary}
+use Rattle.steps.specs.declared.Step.TheVariants.{Reset, Opcode, Boundary}
 use Rattle.steps.specs.declared.Interruption.{Interruption}
 use Rattle.steps.specs.Answers.{number_of}
+use Rattle.steps.specs.Widths.{StepFits}
 use Rattle.refusals.specs.Refusals.{malformed_on}
 use Rattle.settings.specs.Settings.{header_place}
 use Rattle.settings_laws.specs.Locked.{Fixed}
@@ -19,10 +20,11 @@ use Rattle.header.specs.Header.Word.{CurrentIp, NextIp}
 use Rattle.machine.specs.declared.Machine.{Machine}
 use Rattle.machine.specs.Machines.{machine, settings_of, edition_of, with_settings}
 use Rattle.machine.specs.Outcomes.{Outcome, gives, ends}
-use Rattle.machine.specs.Service.{saved_at_boundary, entry, resume}
+use Rattle.machine.specs.Service.{saved_at_boundary, entry, passed, resume}
+use Rattle.machine.specs.Steps.{stepped}
 use Rattle.runs.specs.Runs.{Run, run, answers_of}
 use Rattle.isolation.specs.Widths.{MachineFits}
-use Rattle.isolation.specs.Service.{OnlyHeader, Entering, recorded, latch_after, Entry, Resumption, Resume, PointersBy}
+use Rattle.isolation.specs.Service.{answer_to, OnlyHeader, Entering, recorded, latch_after, Entry, Passing, Resumption, Resume, PointersBy}
 use Rattle.isolation.specs.Isolation.{Start, NoReset, UpToEntry, last_number, Agree, through_entry}
 
 -- ---- the hypotheses ask for no more
@@ -94,6 +96,10 @@ ResumeDetermines =
     Resumed)
     e.memory
 
+-- and after a boundary that passes
+abbrev pub PassingDetermines : Type 0
+PassingDetermines = (m : Machine) (x : Memories) (smi : ℕ) (o : Outcome) → Passing m x smi o → o ≡ ends (passed m (eqb smi 1)) x
+
 -- and the IP words of a well-formed boundary, with EIP after RSM
 abbrev pub PointersDetermine : Type 0
 PointersDetermine =
@@ -102,6 +108,20 @@ PointersDetermine =
     → let s = saved_at_boundary m current i in
     let word = word_in e.memory.management (header_place (settings_of m)) in
     (word CurrentIp ≡ s.current) × (word NextIp ≡ s.next) × (o.stepped.machine.registers.eip ≡ s.next)
+
+-- so they are recorded at every boundary that enters, from outside the mode or from inside
+abbrev pub IpRecorded : Machine → ℕ → Interruption → Outcome → Outcome → Type 0
+IpRecorded m current i e o =
+    let s = saved_at_boundary m current i in
+    let word = word_in e.memory.management (header_place (settings_of m)) in
+    (word CurrentIp ≡ s.current) × (word NextIp ≡ s.next) × (o.stepped.machine.registers.eip ≡ s.next)
+
+abbrev pub PointersRecorded : Type 0
+PointersRecorded =
+    (m : Machine) (x : Memories) (smi current : ℕ) (i : Interruption) (modrm a next : ℕ) → MachineFits m → StepFits (Boundary smi current i)
+    → answer_to m x (Boundary smi current i) ≡ 11
+    → let e = stepped m x (Boundary smi current i) in
+    IpRecorded m current i e (stepped e.stepped.machine e.memory (Opcode 0xaa modrm a next))
 
 -- the second run is the first with another management memory
 abbrev pub second : Run → List ℕ → Run

@@ -5,7 +5,7 @@ ghost use Rattle.isolation.specs.Widths.{MachineFits};
 ghost use Rattle.isolation.specs.Refusals.{RefusedAsCalledFor, RefusalChangesNothing};
 ghost use Rattle.isolation.specs.Service.{EntersWhereDue, EntersAsStated, PassesAsStated, ResumesWhereDue, ResumesAsStated, ResumesAsEntered, PointersAsStated};
 ghost use Rattle.isolation.specs.Isolation.{Isolated, SameAnswers};
-ghost use Rattle.isolation.specs.Tightness.{StartAsked, NoResetAsked, UpToEntryAsked, LastIsLast, ThroughEntryAsked, WholeList, HeaderDetermines, EntryDetermines, ResumptionDetermines, ResumeDetermines, PointersDetermine, AgreementDetermines};
+ghost use Rattle.isolation.specs.Tightness.{StartAsked, NoResetAsked, UpToEntryAsked, LastIsLast, ThroughEntryAsked, WholeList, HeaderDetermines, EntryDetermines, ResumptionDetermines, ResumeDetermines, PassingDetermines, PointersDetermine, PointersRecorded, AgreementDetermines};
 ghost use Rattle.isolation.specs.Editions.{EditionStays, LockHolds, NoService, SameWithoutNews, CommonAsked};
 ghost use Rattle.isolation.specs.Examples.{IsolationExamples, BoundaryExamples, PassingExamples, SmintExamples, RefusalExamples, LaterExamples, AlikeExample};
 
@@ -62,7 +62,9 @@ fn claims()
     ensures entry { EntryDetermines }
     ensures resumption { ResumptionDetermines }
     ensures resume { ResumeDetermines }
+    ensures passing { PassingDetermines }
     ensures pointers { PointersDetermine }
+    ensures recorded { PointersRecorded }
     ensures agreement { AgreementDetermines }
 {}
 

@@ -11,7 +11,6 @@ use Rattle.memory.specs.Memory.{Memories, memories}
 use Rattle.steps.specs.declared.Interruption.TheVariants.{None}
 use Rattle.steps.specs.Widths.{StepFits}
 use Rattle.refusals.specs.Refusals.{malformed_on, program_while_halted}
-use Rattle.settings.specs.declared.Edition.{Edition}
 use Rattle.settings.specs.declared.Edition.TheVariants.{Cx486, Mii}
 use Rattle.settings.specs.Settings.{smhr, header_end, header_fits, header_place, enabled, opcodes_allowed, with_byte, with_smhr}
 use Rattle.settings_laws.proofs.Place.{smhr_loaded_lem}

@@ -2,6 +2,7 @@
 #![tactic(auto)]
 
 ghost use Rattle.levels.specs.Levels.{OriginRecorded, ReturnsThrough, Overwritten, NeverOut, BothStand, BothReturn, NothingNests};
+ghost use Rattle.levels.specs.Asked.{StandsAsStored, ThroughSettles, MovedAsked};
 ghost use Rattle.levels.specs.Nested.{NestedExample, LevelsExample};
 
 // These hold the gate to the theorems, since a function is proved only with all that it ensures.
@@ -21,4 +22,11 @@ fn two_places()
     ensures stand { BothStand }
     ensures back { BothReturn }
     ensures example { LevelsExample }
+{}
+
+// What the hypotheses ask for, and what the claims settle.
+fn hypotheses()
+    ensures stands { StandsAsStored }
+    ensures through { ThroughSettles }
+    ensures moved { MovedAsked }
 {}

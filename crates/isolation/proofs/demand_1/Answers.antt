@@ -4,7 +4,7 @@ use Rattle.isolation.proofs.demand_1.Goals as goal
 
 pub returns : goal.returns
 returns c = record {
-      refused = refused_as_called_for;
-      unchanged = refusal_changes_nothing;
-      examples = refusal_examples;
-    }
+  refused = refused_as_called_for;
+  unchanged = refusal_changes_nothing;
+  examples = refusal_examples;
+}

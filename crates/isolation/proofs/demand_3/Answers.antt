@@ -4,7 +4,7 @@ use Rattle.isolation.proofs.demand_3.Goals as goal
 
 pub returns : goal.returns
 returns c = record {
-      isolated = isolated;
-      answers = same_answers;
-      examples = isolation_examples;
-    }
+  isolated = isolated;
+  answers = same_answers;
+  examples = isolation_examples;
+}

@@ -5,11 +5,11 @@ use Rattle.isolation.proofs.editions.Goals as goal
 
 pub returns : goal.returns
 returns c = record {
-      stays = edition_stays;
-      lock = lock_holds;
-      service = no_service;
-      same = same_without_news;
-      common = common_asked;
-      examples = later_examples;
-      alike = alike_example;
-    }
+  stays = edition_stays;
+  lock = lock_holds;
+  service = no_service;
+  same = same_without_news;
+  common = common_asked;
+  examples = later_examples;
+  alike = alike_example;
+}

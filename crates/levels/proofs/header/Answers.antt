@@ -3,7 +3,7 @@ use Rattle.levels.proofs.header.Goals as goal
 
 pub returns : goal.returns
 returns c = record {
-      origin = origin_recorded;
-      through = returns_through;
-      none = nothing_nests;
-    }
+  origin = origin_recorded;
+  through = returns_through;
+  none = nothing_nests;
+}

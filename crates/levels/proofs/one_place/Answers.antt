@@ -4,7 +4,7 @@ use Rattle.levels.proofs.one_place.Goals as goal
 
 pub returns : goal.returns
 returns c = record {
-      overwritten = overwritten;
-      never = never_out;
-      example = nested_example;
-    }
+  overwritten = overwritten;
+  never = never_out;
+  example = nested_example;
+}

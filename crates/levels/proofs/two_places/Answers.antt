@@ -4,7 +4,7 @@ use Rattle.levels.proofs.two_places.Goals as goal
 
 pub returns : goal.returns
 returns c = record {
-      stand = both_stand;
-      back = both_return;
-      example = levels_example;
-    }
+  stand = both_stand;
+  back = both_return;
+  example = levels_example;
+}
