@@ -2,9 +2,12 @@
 // A line is a name, a colon, and commands with their numbers; a semicolon or the line's end closes each. The colon brings a fresh area.
 #![tactic(auto)]
 
+ghost use Rattle.std.specs.Io.{ReadsAtMost};
+
 use journal::{Counter, Handed, Raised, Started};
-use libc::{STDIN_FILENO, STDOUT_FILENO};
 use slots::Contents;
+use std::io;
+use std::io::Read;
 
 // The first two letters of each command, as a number.
 const RESTART: u16 = 0x7265;
@@ -61,7 +64,7 @@ fn letter_after(command: u16, letter: u8) -> u16 {
 }
 
 fn digit_after(number: u64, digit: u8) -> u64 {
-    std::num::wrapping_add_u64(number % TENTH * 10, (digit % 16) as u64)
+    (number % TENTH * 10).wrapping_add((digit % 16) as u64)
 }
 
 impl Script {
@@ -96,57 +99,55 @@ impl Script {
     }
 }
 
-fn say(text: &[u8]) {
-    io::write_all(STDOUT_FILENO, text);
+fn say(rt: &impl Print, text: &[u8]) -> io::Result<()> {
+    rt.write_all(text)
 }
 
-fn say_number(number: u64) {
-    say(b" ");
-    io::print_decimal(STDOUT_FILENO, number);
+fn say_number(rt: &impl Print, number: u64) -> io::Result<()> {
+    print!(rt; " {number}")
 }
 
 // The next number that is left; the same one after a refusal.
-fn restart(area: &[u8], next: u64) -> u64 {
+fn restart(rt: &impl Print, area: &[u8], next: u64) -> io::Result<u64> {
     let started = journal::restart(area);
     match started {
         Started::Ready(counter) => {
-            say_number(counter.next);
-            return counter.next;
+            say_number(rt, counter.next)?;
+            Ok(counter.next)
         }
         Started::Refused => {
-            say(b" refused");
-            return next;
+            say(rt, b" refused")?;
+            Ok(next)
         }
     }
 }
 
-fn number(area: &[u8], next: u64) -> u64 {
+fn number(rt: &impl Print, area: &[u8], next: u64) -> io::Result<u64> {
     let handed = journal::next(Counter { next }, area);
     match handed {
         Handed::Number(number, counter) => {
-            say_number(number);
-            return counter.next;
+            say_number(rt, number)?;
+            Ok(counter.next)
         }
         Handed::Refused => {
-            say(b" refused");
-            return next;
+            say(rt, b" refused")?;
+            Ok(next)
         }
     }
 }
 
 fn is_done(raised: Raised) -> bool {
     match raised {
-        Raised::Done => return true,
-        Raised::Refused => return false,
+        Raised::Done => true,
+        Raised::Refused => false,
     }
 }
 
-fn say_raised(raised: Raised) {
+fn say_raised(rt: &impl Print, raised: Raised) -> io::Result<()> {
     if is_done(raised) {
-        say(b" done");
-        return;
+        return say(rt, b" done");
     }
-    say(b" refused");
+    say(rt, b" refused")
 }
 
 fn filled(area: &mut [u8], limit: u16) -> u32 {
@@ -159,28 +160,25 @@ fn filled(area: &mut [u8], limit: u16) -> u32 {
     count
 }
 
-fn say_contents(found: Contents) {
+fn say_contents(rt: &impl Print, found: Contents) -> io::Result<()> {
     match found {
         Contents::Ceilings(count, ceiling) => {
-            say_number(count as u64);
-            say(b", ceiling");
-            say_number(ceiling);
+            say_number(rt, count as u64)?;
+            say(rt, b", ceiling")?;
+            say_number(rt, ceiling)
         }
-        Contents::Malformed => say(b" malformed"),
+        Contents::Malformed => say(rt, b" malformed"),
     }
 }
 
-fn say_slot(area: &[u8], slot: u16) {
+fn say_slot(rt: &impl Print, area: &[u8], slot: u16) -> io::Result<()> {
     let mut i = 0;
     while i < 12 {
-        say(b" ");
-        io::print_hex(
-            STDOUT_FILENO,
-            fields::byte(area, 12 * slot as usize + i) as u64,
-            2,
-        );
+        let byte = fields::byte(area, 12 * slot as usize + i);
+        print!(rt; " {byte:02x}")?;
         i = i + 1;
     }
+    Ok(())
 }
 
 fn differing(a: &[u8], b: &[u8]) -> u32 {
@@ -194,34 +192,42 @@ fn differing(a: &[u8], b: &[u8]) -> u32 {
 }
 
 // A call on an area: the next number that is left.
-fn called(area: &mut [u8], script: Script) -> u64 {
+fn called(rt: &impl Print, area: &mut [u8], script: Script) -> io::Result<u64> {
     let command = script.command;
     match command {
-        RESTART => return restart(area, script.next),
-        NUMBER => return number(area, script.next),
-        RAISE => say_raised(journal::raise(area, script.third)),
-        CUT => say_raised(journal::raise_part(area, script.second, (script.third % 256) as u8)),
-        TAKEN => say_contents(slots::read(area)),
-        SLOT => say_slot(area, (script.third % 65536) as u16),
-        FILL => say_number(filled(area, (script.third % 65536) as u16) as u64),
-        _ => say(b" unknown"),
+        RESTART => return restart(rt, area, script.next),
+        NUMBER => return number(rt, area, script.next),
+        RAISE => say_raised(rt, journal::raise(area, script.third))?,
+        CUT => say_raised(
+            rt,
+            journal::raise_part(area, script.second, (script.third % 256) as u8),
+        )?,
+        TAKEN => say_contents(rt, slots::read(area))?,
+        SLOT => say_slot(rt, area, (script.third % 65536) as u16)?,
+        FILL => say_number(rt, filled(area, (script.third % 65536) as u16) as u64)?,
+        _ => say(rt, b" unknown")?,
     }
-    script.next
+    Ok(script.next)
 }
 
 // A call on the bytes that are lent.
-fn lent(space: &mut [u8], script: Script) -> u64 {
+fn lent(rt: &impl Print, space: &mut [u8], script: Script) -> io::Result<u64> {
     let size = fields::at_most(script.size, space.len());
-    say(b" ->");
-    called(&mut space[0..size], script)
+    say(rt, b" ->")?;
+    called(rt, &mut space[0..size], script)
 }
 
-fn say_changed(before: &[u8], space: &[u8]) {
-    say(b" ->");
-    say_number(differing(before, space) as u64);
+fn say_changed(rt: &impl Print, before: &[u8], space: &[u8]) -> io::Result<()> {
+    say(rt, b" ->")?;
+    say_number(rt, differing(before, space) as u64)
 }
 
-fn performed(space: &mut [u8; SPACE], before: &mut [u8; SPACE], script: Script) -> Script {
+fn performed(
+    rt: &impl Print,
+    space: &mut [u8; SPACE],
+    before: &mut [u8; SPACE],
+    script: Script,
+) -> io::Result<Script> {
     let mut after = script.without_command();
     let command = script.command;
     match command {
@@ -234,46 +240,71 @@ fn performed(space: &mut [u8; SPACE], before: &mut [u8; SPACE], script: Script) 
         COUNTER => after.next = script.third,
         SIZE => after.size = script.third as usize,
         KEEP => *before = *space,
-        CHANGED => say_changed(before, space),
-        _ => after.next = lent(space, script),
+        CHANGED => say_changed(rt, before, space)?,
+        _ => after.next = lent(rt, space, script)?,
     }
-    after
+    Ok(after)
 }
 
 // One byte of the script.
-fn turn(space: &mut [u8; SPACE], before: &mut [u8; SPACE], script: Script, byte: u8) -> Script {
+fn turn(
+    rt: &impl Print,
+    space: &mut [u8; SPACE],
+    before: &mut [u8; SPACE],
+    script: Script,
+    byte: u8,
+) -> io::Result<Script> {
     match byte {
         b':' => {
             *space = [0u8; SPACE];
             *before = [0u8; SPACE];
-            say(b":");
-            return Script::begun();
+            say(rt, b":")?;
+            Ok(Script::begun())
         }
         b';' | b'\n' => {
-            let after = performed(space, before, script);
-            say(&[byte]);
-            return after;
+            let after = performed(rt, space, before, script)?;
+            say(rt, &[byte])?;
+            Ok(after)
         }
         _ => {
-            say(&[byte]);
-            return script.with_byte(byte);
+            say(rt, &[byte])?;
+            Ok(script.with_byte(byte))
         }
     }
 }
 
-fn play(text: &[u8]) {
+fn play(rt: &impl Print, text: &[u8]) -> io::Result<()> {
     let mut space = [0u8; SPACE];
     let mut before = [0u8; SPACE];
     let mut script = Script::begun();
     let mut at = 0;
     while at < text.len() {
-        script = turn(&mut space, &mut before, script, text[at]);
+        script = turn(rt, &mut space, &mut before, script, text[at])?;
         at = at + 1;
     }
+    Ok(())
 }
 
-fn main() {
-    let mut text = io::large_buffer();
-    let size = io::read_full(STDIN_FILENO, &mut text);
-    play(&text[..size]);
+// Reads until the buffer is full or the input ends: how many bytes stand at the buffer's start.
+fn read_full<R: Read>(from: &mut R, buf: &mut [u8]) -> io::Result<usize>
+    ensures { ReadsAtMost result buf.new }
+{
+    let mut done = 0;
+    while done < buf.len() {
+        let n = from.read(&mut buf[done..])?;
+        if n == 0 {
+            break;
+        }
+        done += n;
+    }
+    Ok(done)
+}
+
+// Bytes of a script beyond these are not read.
+const LONGEST_SCRIPT: usize = 65536;
+
+fn main(rt: HostRuntime) -> io::Result<()> {
+    let mut text = [0u8; LONGEST_SCRIPT];
+    let size = read_full(&mut rt.reader(), &mut text)?;
+    play(&rt, &text[..size])
 }

@@ -18,3 +18,8 @@ pub data Shown (e : Edition) : List ℕ → List ℕ → Type 0 where
   none : {out : List ℕ} → Shown e out out
   one : {size : ℕ} {before after : List ℕ} → Shows e size before after → Shown e before after
   then : {before between after : List ℕ} → Shown e before between → Shown e between after → Shown e before after
+
+-- What a failed read or write leaves: the buffer as it was, or the text of what was read, which may not have been printed.
+pub data ShowsAtMost (e : Edition) : List ℕ → List ℕ → Type 0 where
+  nothing : {out : List ℕ} → ShowsAtMost e out out
+  text : {size : ℕ} {before after : List ℕ} → Shows e size before after → ShowsAtMost e before after

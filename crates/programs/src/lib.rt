@@ -1,64 +1,130 @@
 // What the programs of both editions do: each is a main that names its edition.
 #![tactic(auto)]
 
-ghost use Rattle.std.specs.Prelude.{◌≤◌, length};
-ghost use Rattle.programs.specs.Programs.{Shows, Shown};
+ghost use Rattle.std.specs.Prelude.{◌≤◌, length, IfOk, IfSome, OnErr};
+ghost use Rattle.std.specs.Io.{ReadsAtMost};
+ghost use Rattle.programs.specs.Programs.{Shows, Shown, ShowsAtMost};
 
-use libc::STDOUT_FILENO;
 use settings::Edition;
+use std::env::{Env, FillError};
+use std::io::{Read, Write};
+use std::rt::Files;
+use std::{fs, io, str};
 
-fn print(edition: Edition, input: &[u8], out: &mut [u8; 130006]) -> usize
+fn print(
+    rt: &impl Print,
+    edition: Edition,
+    input: &[u8],
+    out: &mut [u8; 130006],
+) -> io::Result<usize>
     requires { length input.now ≤ 65537 }
-    ensures { Shows edition result out.old out.new }
+    ensures ok { IfOk result (λ size. Shows edition size out.old out.new) }
+    ensures err { OnErr result (ShowsAtMost edition out.old out.new) }
 {
     let size = player::output(edition, input, out);
     let text: &[u8] = out;
-    io::write_all(STDOUT_FILENO, &text[..size]);
-    size
+    rt.write_all(&text[..size])?;
+    Ok(size)
 }
 
-// Plays a trace from a descriptor and prints its text, which is left in the lent buffer. The result is the text's size.
-pub fn show(edition: Edition, from: i32, out: &mut [u8; 130006]) -> usize
-    ensures { Shows edition result out.old out.new }
+// Reads until the buffer is full or the input ends. The result is how many bytes stand at the buffer's start.
+fn read_full<R: Read>(from: &mut R, buf: &mut [u8]) -> io::Result<usize>
+    ensures { ReadsAtMost result buf.new }
+{
+    let mut done = 0;
+    while done < buf.len() {
+        let n = from.read(&mut buf[done..])?;
+        if n == 0 {
+            break;
+        }
+        done += n;
+    }
+    Ok(done)
+}
+
+// Plays a trace from a reader and prints its text, which is left in the lent buffer. The result is the text's size.
+pub fn show<R: Read>(
+    rt: &impl Print,
+    edition: Edition,
+    from: &mut R,
+    out: &mut [u8; 130006],
+) -> io::Result<usize>
+    ensures ok { IfOk result (λ size. Shows edition size out.old out.new) }
+    ensures err { OnErr result (ShowsAtMost edition out.old out.new) }
 {
     let mut input = [0u8; 65537]; // one byte more than is taken, so that a longer input is seen
-    let n = io::read_full(from, &mut input);
-    print(edition, &input[..n], out)
+    let n = read_full(from, &mut input)?;
+    print(rt, edition, &input[..n], out)
 }
 
-// Prints the name that an argument gives and opens that file. The result is below 0 where it can't be opened, and standard error says why.
-fn open_case(i: usize) -> i32 {
-    let mut name = io::buffer();
-    let n = os::arg(i, &mut name);
-    io::write_all(STDOUT_FILENO, b"== ");
-    io::write_all(STDOUT_FILENO, &name[..n]);
-    io::write_all(STDOUT_FILENO, b"\n");
-    let trace = os::open_read(&name[..n]);
-    if trace < 0 {
-        os::fail(&name[..n]);
+// Puts an argument at the buffer's start: its size, or nothing where there is no such argument. One that is longer than the buffer counts as empty.
+fn argument(rt: &impl Env, i: usize, buf: &mut [u8]) -> Option<usize>
+    ensures { IfSome result (λ n. n ≤ length buf.new) }
+{
+    match rt.arg(i, buf) {
+        Ok(n) => Some(n),
+        Err(FillError::TooLong) => Some(0),
+        Err(FillError::NotPresent) => None,
     }
-    trace
 }
 
-fn show_case(edition: Edition, i: usize, out: &mut [u8; 130006])
+// Says on standard error why a file can't be opened, in the system's words and without its number for them.
+fn say_why(rt: &impl Eprint, name: &str, error: io::Error) -> io::Result<()> {
+    let mut text = [0u8; 256];
+    let mut rest = io::Cursor::new(&mut text[..]);
+    write!(rest, "{error}")?;
+    let size = rest.position().min(256) as usize;
+    let text = str::from_utf8(&text[..size]).unwrap_or("");
+    let (why, _) = text.split_once(" (os error ").unwrap_or((text, ""));
+    eprintln!(rt; "{name}: {why}")
+}
+
+// Prints the name of a file and opens it. Nothing where it can't be opened, and standard error says why.
+fn open_case<R: Files + Print + Eprint>(rt: &R, name: &[u8]) -> io::Result<Option<R::File>> {
+    rt.write_all(b"== ")?;
+    rt.write_all(name)?;
+    rt.write_all(b"\n")?;
+    let Ok(name) = str::from_utf8(name) else {
+        return Err(io::Error::from(io::ErrorKind::InvalidFilename));
+    };
+    match fs::open(rt, name) {
+        Ok(trace) => Ok(Some(trace)),
+        Err(error) => {
+            say_why(rt, name, error)?;
+            Ok(None)
+        }
+    }
+}
+
+fn show_case<R: Files + Print + Eprint>(
+    rt: &R,
+    edition: Edition,
+    name: &[u8],
+    out: &mut [u8; 130006],
+) -> io::Result<()>
     ensures { Shown edition out.old out.new }
 {
-    let trace = open_case(i);
-    if trace < 0 {
-        return;
-    }
-    show(edition, trace, out);
-    libc::close(trace);
+    let Some(mut trace) = open_case(rt, name)? else {
+        return Ok(());
+    };
+    show(rt, edition, &mut trace, out)?;
+    Ok(())
 }
 
 // For each trace file that an argument names, prints its name and then its text.
-pub fn show_cases(edition: Edition, out: &mut [u8; 130006])
+pub fn show_cases<R: Env + Files + Print + Eprint>(
+    rt: &R,
+    edition: Edition,
+    out: &mut [u8; 130006],
+) -> io::Result<()>
     ensures { Shown edition out.old out.new }
 {
-    let n = os::arg_count();
-    let mut i: usize = 1;
-    while i < n {
-        show_case(edition, i, out);
-        i += 1;
+    for i in 1..usize::MAX {
+        let mut name = [0u8; 4096]; // the longest path, and one byte more
+        let Some(n) = argument(rt, i, &mut name) else {
+            break;
+        };
+        show_case(rt, edition, &name[..n], out)?;
     }
+    Ok(())
 }

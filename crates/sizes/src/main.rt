@@ -3,11 +3,11 @@
 // output, a halt, the same boundary, and a read of the byte at 0.
 #![tactic(auto)]
 
-use libc::STDOUT_FILENO;
 use machine::Machine;
 use settings::Edition;
+use std::io;
 
-fn show(main_size: usize, management_size: usize) {
+fn show(rt: &impl Print, main_size: usize, management_size: usize) -> io::Result<()> {
     let mut main = [0u8; 1048577];
     let mut management = [0u8; 65537];
     let m = fields::at_most(main_size, 1048577);
@@ -20,22 +20,22 @@ fn show(main_size: usize, management_size: usize) {
         &mut management[0..g],
         &mut out,
     );
-    io::write_all(STDOUT_FILENO, &out[..size]);
+    rt.write_all(&out[..size])
 }
 
-fn main() {
-    io::write_all(STDOUT_FILENO, b"== main 0\n");
-    show(0, 65536);
-    io::write_all(STDOUT_FILENO, b"== main 1\n");
-    show(1, 65536);
-    io::write_all(STDOUT_FILENO, b"== main 1048576\n");
-    show(1048576, 65536);
-    io::write_all(STDOUT_FILENO, b"== main 1048577\n");
-    show(1048577, 65536);
-    io::write_all(STDOUT_FILENO, b"== management 0\n");
-    show(65536, 0);
-    io::write_all(STDOUT_FILENO, b"== management 65535\n");
-    show(65536, 65535);
-    io::write_all(STDOUT_FILENO, b"== management 65537\n");
-    show(65536, 65537);
+fn main(rt: HostRuntime) -> io::Result<()> {
+    rt.write_all(b"== main 0\n")?;
+    show(&rt, 0, 65536)?;
+    rt.write_all(b"== main 1\n")?;
+    show(&rt, 1, 65536)?;
+    rt.write_all(b"== main 1048576\n")?;
+    show(&rt, 1048576, 65536)?;
+    rt.write_all(b"== main 1048577\n")?;
+    show(&rt, 1048577, 65536)?;
+    rt.write_all(b"== management 0\n")?;
+    show(&rt, 65536, 0)?;
+    rt.write_all(b"== management 65535\n")?;
+    show(&rt, 65536, 65535)?;
+    rt.write_all(b"== management 65537\n")?;
+    show(&rt, 65536, 65537)
 }

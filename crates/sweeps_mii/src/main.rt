@@ -2,8 +2,9 @@
 #![tactic(auto)]
 
 use settings::Edition;
+use std::io;
 
-fn main() {
+fn main(rt: HostRuntime) -> io::Result<()> {
     let mut out = [0u8; 130006];
-    programs::show_cases(Edition::Mii, &mut out);
+    programs::show_cases(&rt, Edition::Mii, &mut out)
 }
