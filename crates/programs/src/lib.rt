@@ -68,15 +68,32 @@ fn argument(rt: &impl Env, i: usize, buf: &mut [u8]) -> Option<usize>
     }
 }
 
+// Opens a file by its name. A name that is no text can't be opened.
+fn open<R: Files>(rt: &R, name: &[u8]) -> io::Result<R::File> {
+    match str::from_utf8(name) {
+        Ok(name) => fs::open(rt, name),
+        Err(_) => Err(io::Error::from(io::ErrorKind::InvalidFilename)),
+    }
+}
+
 // Says on standard error why a file can't be opened, in the system's words and without its number for them.
-fn say_why(rt: &impl Eprint, name: &str, error: io::Error) -> io::Result<()> {
+fn say_why(rt: &impl Eprint, name: &[u8], error: io::Error) -> io::Result<()> {
+    for part in name.utf8_chunks() {
+        let text = part.valid();
+        let other = if part.invalid().is_empty() {
+            ""
+        } else {
+            "\u{fffd}"
+        };
+        eprint!(rt; "{text}{other}")?;
+    }
     let mut text = [0u8; 256];
     let mut rest = io::Cursor::new(&mut text[..]);
     write!(rest, "{error}")?;
     let size = rest.position().min(256) as usize;
     let text = str::from_utf8(&text[..size]).unwrap_or("");
     let (why, _) = text.split_once(" (os error ").unwrap_or((text, ""));
-    eprintln!(rt; "{name}: {why}")
+    eprintln!(rt; ": {why}")
 }
 
 // Prints the name of a file and opens it. Nothing where it can't be opened, and standard error says why.
@@ -84,10 +101,7 @@ fn open_case<R: Files + Print + Eprint>(rt: &R, name: &[u8]) -> io::Result<Optio
     rt.write_all(b"== ")?;
     rt.write_all(name)?;
     rt.write_all(b"\n")?;
-    let Ok(name) = str::from_utf8(name) else {
-        return Err(io::Error::from(io::ErrorKind::InvalidFilename));
-    };
-    match fs::open(rt, name) {
+    match open(rt, name) {
         Ok(trace) => Ok(Some(trace)),
         Err(error) => {
             say_why(rt, name, error)?;
