@@ -45,7 +45,10 @@ fn crates() -> Vec<Crate> {
     let rows: Vec<(&str, Vec<&str>)> = text
         .lines()
         .filter_map(|l| l.split('#').next()?.split_once(':'))
-        .map(|(name, deps)| (name.trim(), deps.split_whitespace().collect()))
+        .filter_map(|(name, deps)| {
+            let name = name.split_whitespace().next()?; // and not the word "staticlib"
+            Some((name, deps.split_whitespace().collect()))
+        })
         .collect();
     let is_library = |name: &str| Path::new("crates").join(name).join("src/lib.rt").exists();
     rows.iter()
@@ -79,7 +82,7 @@ fn files(folder: &Path) -> Vec<PathBuf> {
 }
 
 fn in_name(c: char) -> bool {
-    c.is_alphanumeric() || "-_′".contains(c)
+    c.is_alphanumeric() || "-_'".contains(c)
 }
 
 /// The text with one name in place of another, as a whole word only.
@@ -132,8 +135,9 @@ fn with_whole(lines: &[&str], start: usize, name: &str, whole: &str, after: &str
 fn claims(folder: &Path) -> Vec<String> {
     let text = read(&folder.join("src/lib.rt"));
     let mut found = Vec::new();
-    for part in text.split('⌜').skip(1) {
-        let claim = part.split('⌝').next().unwrap_or("").trim();
+    for part in text.split("    ensures ").skip(1) {
+        let clause = part.split_once('{').map_or("", |(_, c)| c);
+        let claim = clause.split('}').next().unwrap_or("").trim();
         let is_name = claim.chars().all(in_name) && claim.starts_with(char::is_uppercase);
         if is_name && !found.contains(&claim.to_string()) {
             found.push(claim.to_string());
@@ -177,12 +181,10 @@ fn emptied(folder: &Path, claim: &str) -> Result<Vec<Change>, String> {
         );
         let text: Vec<String> = text
             .lines()
-            .map(
-                |l| match l.starts_with("use ") && l.contains("·specs.specs.") {
-                    true => renamed(l, claim, &format!("{claim}, {whole}")),
-                    false => l.to_string(),
-                },
-            )
+            .map(|l| match l.starts_with("use ") && l.contains(".specs.") {
+                true => renamed(l, claim, &format!("{claim}, {whole}")),
+                false => l.to_string(),
+            })
             .collect();
         changes.push(Change {
             path,
@@ -328,7 +330,8 @@ fn dropped(folder: &Path, all: &[Crate]) -> Vec<Cut> {
 
 /// What a check of a crate says: none, or its first complaint.
 fn complaint(name: &str) -> Option<String> {
-    let done = Command::new("rt").args(["check", name]).output();
+    let folder = Path::new("crates").join(name);
+    let done = Command::new("rt").arg("check").current_dir(folder).output();
     let done = done.unwrap_or_else(|e| fail(&format!("rt: {e}")));
     if done.status.success() {
         return None;
@@ -337,10 +340,15 @@ fn complaint(name: &str) -> Option<String> {
         String::from_utf8_lossy(&done.stdout).into_owned() + &String::from_utf8_lossy(&done.stderr);
     let line = said
         .lines()
-        .find(|l| l.contains(": error"))
+        .find(|l| l.contains(": error") || l.contains(": it is not proved "))
         .unwrap_or("no place given");
+    let line = line.strip_prefix("note: ").unwrap_or(line);
     let place = line.split(": error").next().unwrap_or(line);
-    Some(place.rsplit("crates/").next().unwrap_or(place).to_string())
+    let place = place.split(": it is not proved ").next().unwrap_or(place);
+    Some(format!(
+        "{name}/{}",
+        place.strip_prefix("./").unwrap_or(place)
+    ))
 }
 
 /// Makes a cut, asks the crate and those above it, and takes the cut back.

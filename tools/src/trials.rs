@@ -10,8 +10,8 @@ const RANDOM: usize = 1_000;
 const DAMAGED: usize = 1_000;
 /// Each edition, and its proved program.
 const EDITIONS: [(&str, &str); 2] = [
-    ("486", "target/bin/replay"),
-    ("mii", "target/bin/replay_mii"),
+    ("486", "crates/replay/out/replay"),
+    ("mii", "crates/replay_mii/out/replay_mii"),
 ];
 
 /// Numbers that are the same on each run, so that a failure can be looked at again.
