@@ -2,6 +2,7 @@
 use mathlib.Core.Path.{◌≡◌, refl, sym, ap, ◌∙◌}
 use mathlib.Core.Bool.{Bool, true, false, cond, ◌&&◌}
 use mathlib.Core.List.{List, ◌++◌, append_assoc, append-nil}
+use mathlib.Core.Logic.{◌⊎◌, ⊎_elim}
 use Prim.Native.Nat.{ℕ, zero, suc, ◌+◌, ◌-◌, ◌<◌, ◌≤◌}
 use native.Mathlib.Omega.{arith}
 use borrow.Author.Tests.{ltb-true, ltb-false, le-ltb, lt-ltb, leb-true, leb-false}
@@ -358,6 +359,10 @@ module _ {depth : ℕ} {l : List ℕ} {s o : State} {r : Reason} {at left : ℕ}
 
           pub run_cut : (q ≡ why.End → ⊥) → (s'' ≡ o) × (why.Limit ≡ r)
           run_cut j = go_cut s' o r _ ran written _ joined s'' q goes_ends j
+
+-- a reason that is one of the last three is not the end
+pub other_tag : (◌≡◌ {A = ℕ} 0 1) ⊎ ((◌≡◌ {A = ℕ} 0 2) ⊎ (◌≡◌ {A = ℕ} 0 3)) → ⊥
+other_tag = ⊎_elim (λ e. omega arith) (⊎_elim (λ e. omega arith) (λ e. omega arith))
 
 -- where the walk leaves, from where it began
 pub from_start : {s₀ s : State} {t : Script} {q : Reason}

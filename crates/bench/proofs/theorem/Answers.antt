@@ -4,7 +4,7 @@ use Rattle.bench.proofs.theorem.Goals as goal
 
 pub returns : goal.returns
 returns c = record {
-      holds = sheet_holds;
-      armed = armed_asked;
-      before = before_asked;
-    }
+  holds = sheet_holds;
+  armed = armed_asked;
+  before = before_asked;
+}

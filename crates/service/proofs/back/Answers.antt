@@ -5,8 +5,8 @@ use Rattle.service.proofs.back.Goals as goal
 
 pub returns : goal.returns
 returns c = record {
-      words = words_back;
-      registers = registers_back;
-      segments = segments_back;
-      restored = only_restored;
-    }
+  words = words_back;
+  registers = registers_back;
+  segments = segments_back;
+  restored = only_restored;
+}

@@ -3,8 +3,8 @@ use Rattle.service.proofs.matching.Goals as goal
 
 pub returns : goal.returns
 returns c = record {
-      asked = matching_asked;
-      service = service_asked;
-      every = every_entry;
-      one = matches_one;
-    }
+  asked = matching_asked;
+  service = service_asked;
+  every = every_entry;
+  one = matches_one;
+}

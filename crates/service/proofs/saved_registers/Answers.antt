@@ -3,10 +3,10 @@ use Rattle.service.proofs.saved_registers.Goals as goal
 
 pub returns : goal.returns
 returns c = record {
-      kept = header_kept_asked;
-      mark = no_mark_determines;
-      next = next_recorded;
-      words = words_by_bytes;
-      settled = registers_settled;
-      once = no_mark_at_once;
-    }
+  kept = header_kept_asked;
+  mark = no_mark_determines;
+  next = next_recorded;
+  words = words_by_bytes;
+  settled = registers_settled;
+  once = no_mark_at_once;
+}

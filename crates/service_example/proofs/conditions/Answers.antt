@@ -3,7 +3,7 @@ use Rattle.service_example.proofs.conditions.Goals as goal
 
 pub returns : goal.returns
 returns c = record {
-      header = header_example;
-      mode = mode_example;
-      segments = segments_example;
-    }
+  header = header_example;
+  mode = mode_example;
+  segments = segments_example;
+}

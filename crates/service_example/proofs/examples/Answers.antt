@@ -3,6 +3,6 @@ use Rattle.service_example.proofs.examples.Goals as goal
 
 pub returns : goal.returns
 returns c = record {
-      service = service_example;
-      past = past_inner_example;
-    }
+  service = service_example;
+  past = past_inner_example;
+}
