@@ -1,4 +1,4 @@
-// The player for Rust and C to call: numbers and slices only.
+// The player for Rust and C to call: numbers and slices only. The crate export_c hands it to C under these names.
 #![tactic(auto)]
 
 ghost use Rattle.std.specs.Prelude.{◌≡◌};
@@ -42,8 +42,7 @@ fn replay(
 }
 
 // The 486 edition.
-#[unsafe(no_mangle)]
-pub extern "C" fn rostuvlad_replay(
+pub fn rostuvlad_replay(
     trace: &[u8],
     main: &mut [u8],
     management: &mut [u8],
@@ -58,8 +57,7 @@ pub extern "C" fn rostuvlad_replay(
 }
 
 // The later edition.
-#[unsafe(no_mangle)]
-pub extern "C" fn rostuvlad_replay_mii(
+pub fn rostuvlad_replay_mii(
     trace: &[u8],
     main: &mut [u8],
     management: &mut [u8],

@@ -2,12 +2,9 @@
 // A line is a name, a colon, and commands with their numbers; a semicolon or the line's end closes each. The colon brings a fresh area.
 #![tactic(auto)]
 
-ghost use Rattle.std.specs.Io.{ReadsAtMost};
-
 use journal::{Counter, Handed, Raised, Started};
 use slots::Contents;
 use std::io;
-use std::io::Read;
 
 // The first two letters of each command, as a number.
 const RESTART: u16 = 0x7265;
@@ -285,26 +282,11 @@ fn play(rt: &impl Print, text: &[u8]) -> io::Result<()> {
     Ok(())
 }
 
-// Reads until the buffer is full or the input ends: how many bytes stand at the buffer's start.
-fn read_full<R: Read>(from: &mut R, buf: &mut [u8]) -> io::Result<usize>
-    ensures { ReadsAtMost result buf.new }
-{
-    let mut done = 0;
-    while done < buf.len() {
-        let n = from.read(&mut buf[done..])?;
-        if n == 0 {
-            break;
-        }
-        done += n;
-    }
-    Ok(done)
-}
-
 // Bytes of a script beyond these are not read.
 const LONGEST_SCRIPT: usize = 65536;
 
 fn main(rt: HostRuntime) -> io::Result<()> {
     let mut text = [0u8; LONGEST_SCRIPT];
-    let size = read_full(&mut rt.reader(), &mut text)?;
+    let size = reading::read_full(&mut rt.reader(), &mut text)?;
     play(&rt, &text[..size])
 }

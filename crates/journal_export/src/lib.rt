@@ -1,4 +1,5 @@
-// The record counter's journal (02, request 4) for Rust and C to call: numbers and slices only.
+// The record counter's journal (02, request 4) for Rust and C to call: numbers and slices only. The crate journal_export_c hands it to C under these
+// names.
 #![tactic(auto)]
 
 ghost use Rattle.std.specs.Prelude.{◌≡◌, not, ◌&&◌, ltb};
@@ -14,8 +15,7 @@ const DONE: u8 = 0;
 
 const REFUSED: u8 = 1;
 
-#[unsafe(no_mangle)]
-pub extern "C" fn rostuvlad_journal_restart(area: &[u8], next: &mut u64) -> u8
+pub fn rostuvlad_journal_restart(area: &[u8], next: &mut u64) -> u8
     ensures result { result ≡ started_result (restart_of area.now) }
     ensures refused { result ≡ bit (not (well_formed area.now)) }
     ensures next { next.new ≡ started_next (restart_of area.now) next.old }
@@ -30,8 +30,7 @@ pub extern "C" fn rostuvlad_journal_restart(area: &[u8], next: &mut u64) -> u8
     }
 }
 
-#[unsafe(no_mangle)]
-pub extern "C" fn rostuvlad_journal_next(area: &[u8], next: &mut u64, number: &mut u64) -> u8
+pub fn rostuvlad_journal_next(area: &[u8], next: &mut u64, number: &mut u64) -> u8
     ensures result { result ≡ handed_result (next_of (counter next.old) area.now) }
     ensures refused { result ≡ bit (not (well_formed area.now && ltb next.old (lastCeiling area.now))) }
     ensures next { next.new ≡ handed_next (next_of (counter next.old) area.now) next.old }
@@ -57,8 +56,7 @@ fn raised_result(answer: Raised) -> u8
     }
 }
 
-#[unsafe(no_mangle)]
-pub extern "C" fn rostuvlad_journal_raise(area: &mut [u8], ceiling: u64) -> u8
+pub fn rostuvlad_journal_raise(area: &mut [u8], ceiling: u64) -> u8
     ensures result { result ≡ raised_result (raise_of area.old ceiling).answer }
     ensures refused { result ≡ bit (refuses_raise area.old ceiling) }
     ensures area { area.new ≡ (raise_of area.old ceiling).area }
@@ -67,8 +65,7 @@ pub extern "C" fn rostuvlad_journal_raise(area: &mut [u8], ceiling: u64) -> u8
 }
 
 // A raise that stops after so many of its eleven stores.
-#[unsafe(no_mangle)]
-pub extern "C" fn rostuvlad_journal_raise_part(area: &mut [u8], ceiling: u64, stores: u8) -> u8
+pub fn rostuvlad_journal_raise_part(area: &mut [u8], ceiling: u64, stores: u8) -> u8
     ensures result { result ≡ raised_result (raise_part_of area.old ceiling stores).answer }
     ensures refused { result ≡ bit (refuses_raise area.old ceiling) }
     ensures area { area.new ≡ (raise_part_of area.old ceiling stores).area }

@@ -2,7 +2,6 @@
 #![tactic(auto)]
 
 ghost use Rattle.std.specs.Prelude.{◌≤◌, length, IfOk, IfSome, OnErr};
-ghost use Rattle.std.specs.Io.{ReadsAtMost};
 ghost use Rattle.programs.specs.Programs.{Shows, Shown, ShowsAtMost};
 
 use settings::Edition;
@@ -27,21 +26,6 @@ fn print(
     Ok(size)
 }
 
-// Reads until the buffer is full or the input ends. The result is how many bytes stand at the buffer's start.
-fn read_full<R: Read>(from: &mut R, buf: &mut [u8]) -> io::Result<usize>
-    ensures { ReadsAtMost result buf.new }
-{
-    let mut done = 0;
-    while done < buf.len() {
-        let n = from.read(&mut buf[done..])?;
-        if n == 0 {
-            break;
-        }
-        done += n;
-    }
-    Ok(done)
-}
-
 // Plays a trace from a reader and prints its text, which is left in the lent buffer. The result is the text's size.
 pub fn show<R: Read>(
     rt: &impl Print,
@@ -53,7 +37,7 @@ pub fn show<R: Read>(
     ensures err { OnErr result (ShowsAtMost edition out.old out.new) }
 {
     let mut input = [0u8; 65537]; // one byte more than is taken, so that a longer input is seen
-    let n = read_full(from, &mut input)?;
+    let n = reading::read_full(from, &mut input)?;
     print(rt, edition, &input[..n], out)
 }
 
