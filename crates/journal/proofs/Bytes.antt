@@ -12,7 +12,7 @@ use lib.ListN.{length, get_or, set, take, length-set}
 use lib.Seq.{take-suc, take_all, get_or-append-add}
 use Rattle.fields.specs.Fields.{bytes_of}
 use Rattle.fields.proofs.Laws.{length_bytes_of}
-use Rattle.slots.specs.Area.{place_of, length_field, kind_field, taken_length, taken_kind}
+use Rattle.slots.specs.Area.{place_of, kind_field, taken_length, taken_kind}
 use Rattle.journal.specs.declared.Store.{Store}
 use Rattle.journal.specs.Stores.{store, upward, stores, store_count, made}
 
@@ -50,7 +50,7 @@ module _ (slot v i : ℕ) where
 
   first_ten : i < 10 → store (place_of slot kind_field + i) (get_or ten i 0) ≡ at_store
   unfolding stores
-  first_ten l = sym (upward_at (place_of slot kind_field) ten (store (place_of slot length_field) taken_length ∷ []) i (rw ten_length l))
+  first_ten l = sym (upward_at (place_of slot kind_field) ten _ i (rw ten_length l))
 
   pub store_kind : (b : ℕ) → i < 2 → b ≡ taken_kind / 2 ^ (8 * i) % 256 → store (12 * slot + 2 + i) b ≡ at_store
   store_kind b l e =

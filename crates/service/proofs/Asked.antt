@@ -80,7 +80,7 @@ leaves_no_mark m x s ss rsm fits width v =
 -- ---- the service
 
 pub matching_asked : MatchingAsked
-matching_asked m x s ss rsm resumed place own = record { resumed = resumed; place = place; own = own }
+matching_asked m x s ss rsm resumed place own = record { resumed = resumed; place = (cc); own = own }
 
 pub service_asked : ServiceAsked
 service_asked m x s ss rsm entered inside none until matching =

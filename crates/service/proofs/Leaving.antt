@@ -1,4 +1,5 @@
 -- What a step leaves of the memories: both as they were, some bytes stored from an address on, or a header. Assumes nothing.
+use native.Mathlib.Omega.{arith}
 use mathlib.Core.Path.{◌≡◌, refl, sym, subst}
 use mathlib.Core.Bool.{Bool}
 use mathlib.Core.List.{List}
@@ -81,7 +82,7 @@ module _ (k : Machine) (y : Memories) where
   performed_leaves (Write width a v) h =
       let s = Write width a v in
       either (λ (r : Reached). If s (ends (gives k r.answer) r.memory)) (there (window k) y a width)
-      (λ t q. Leaves.bytes a (bytes_of width v) (λ t l. Stores.by_write (record { byte = t; below = rw (length_bytes_of width v) at l; cell = refl }) q)) (λ t q. Leaves.nothing) h
+      (λ t q. Leaves.bytes a (bytes_of width v) (λ t l. Stores.by_write (record { byte = t; below = omega (arith, rw (length_bytes_of width v) at l); cell = refl }) q)) (λ t q. Leaves.nothing) h
   performed_leaves (PortRead port) h = Leaves.nothing
   performed_leaves (PortWrite port v) h = Leaves.nothing
   performed_leaves (Opcode op modrm a next) h = opcode_leaves op modrm a next h

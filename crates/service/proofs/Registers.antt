@@ -1,4 +1,5 @@
 -- The registers that entry saved, and the mode, after RSM at the place that entry wrote to. Assumes nothing.
+use native.Mathlib.Omega.{arith}
 use mathlib.Core.Path.{◌≡◌, refl, ap, ◌∙◌}
 use mathlib.Core.Bool.{Bool, true, false, ◌&&◌, and-true, and-false}
 use Prim.Native.Nat.{ℕ, ◌+◌, ◌*◌, ◌/◌, ◌%◌}
@@ -73,7 +74,7 @@ words_back m x s ss rsm fits width entered answered place =
 pub registers_back : RegistersBack
 registers_back m x s ss rsm fits width entered answered kept =
     let b = words_back m x s ss rsm fits width entered answered kept.place in
-    let same = word_same (serviced m x s ss).memory.management (stepped m x s).memory.management (place_of m) kept.bytes in
+    let same = word_same (serviced m x s ss).memory.management (stepped m x s).memory.management (place_of m) (λ i l. kept.bytes i (omega (arith, l))) in
     let selector = b.selector (same CsLevel) in
     let descriptor = b.descriptor (same DescriptorHigh) (same DescriptorLow) in (
       record {

@@ -13,7 +13,7 @@ loop-k-init c = (search rules, c.requires, λ j l m. absurd (omega arith))
 pub returns-then-length_of-ne0 : goal.returns-then-length_of-ne0
 returns-then-length_of-ne0 c = record {
   sound = λ k e. false_true e;
-  complete = λ f. absurd (c.if-length_of-ne0.true (c.length_of.ensures ∙ f c.loop-k.k (c.loop-k.invariant.0) c.loop-k-test.true));
+  complete = λ f. absurd (c.if-length_of-ne0.true (c.length_of.ensures ∙ f c.loop-k.k (c.loop-k.invariant.0) (omega (arith, c.loop-k-test.true))));
 }
 
 pub loop-k-preserved : goal.loop-k-preserved
