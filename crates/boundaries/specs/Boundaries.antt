@@ -1,5 +1,5 @@
 -- 01, "Boundary" and "Trace player", and 02, request 5: what the record of a boundary says, kind 8.
-use Rattle.std.specs.Prelude.{ℕ, ◌≡◌, Bool, true, false, cond, ◌&&◌, ◌||◌, List, [], ◌∷◌, ◌++◌, length, get_or, leb, eqb}
+use Rattle.std.specs.Prelude.{ℕ, ◌≡◌, Bool, true, false, cond, ◌&&◌, ◌||◌, List, [], ◌∷◌, ◌++◌, length, slice_get, eqb, Option, option_map, unwrap_or}
 use Rattle.fields.specs.Fields.{field_at, bytes_of}
 use Rattle.steps.specs.declared.Transfer.{Transfer}
 use Rattle.steps.specs.declared.Interruption.{Interruption}
@@ -35,9 +35,9 @@ index_in b = field_at b 13 4
 abbrev pub interruptions : Transfer → ℕ → List Interruption
 interruptions t i = None ∷ Input ∷ Output t ∷ StringInput i ∷ StringOutput t i ∷ RepInput i ∷ RepOutput t i ∷ []
 
--- the one of a code up to 6; for other codes it doesn't count
-unfoldable pub interruption_of : ℕ → Transfer → ℕ → Interruption
-interruption_of code t i = get_or (interruptions t i) code None
+-- the one of a code, if it has one: the codes are 0 to 6
+unfoldable pub interruption_of : ℕ → Transfer → ℕ → Option Interruption
+interruption_of code t i = slice_get (interruptions t i) code
 
 -- an output, which uses port, size and data
 abbrev pub is_output : Interruption → Bool
@@ -68,8 +68,11 @@ unused_zero x t index = (is_output x || (eqb t.port 0 && eqb t.size 0 && eqb t.v
 -- `malformed`).
 unfoldable pub boundary_of : List ℕ → Step
 boundary_of b =
-    let x = interruption_of (code_in b) (transfer_in b) (index_in b) in
-    cond (leb (code_in b) 6 && unused_zero x (transfer_in b) (index_in b)) (Boundary (smi_in b) (current_in b) x) MalformedBoundary
+    unwrap_or
+    (option_map
+    (λ x. cond (unused_zero x (transfer_in b) (index_in b)) (Boundary (smi_in b) (current_in b) x) MalformedBoundary)
+    (interruption_of (code_in b) (transfer_in b) (index_in b)))
+    MalformedBoundary
 
 -- The other way, the body of a boundary: its seven fields one after the other. Those that its interruption doesn't use are zero.
 abbrev pub body_with : ℕ → ℕ → ℕ → Transfer → ℕ → List ℕ

@@ -7,13 +7,14 @@ ghost use Rattle.events.specs.Events.{event, noted, number_in, value_in, LogTake
 use steps::{Answer, Step};
 
 // The number for a step, whether the machine was inside before it, and its answer.
+#[tactic(auto, unfolding(crate::specs::Events::noted))]
 pub fn note(step: Step, inside: bool, answer: Answer) -> u64
     ensures { result ≡ noted (event step inside answer) }
 {
-    answer.number() as u64
-        + 256 * (step.kind() as u64)
-        + 65536 * (fields::flag(inside) as u64)
-        + 4294967296 * (answer.value() as u64)
+    u64::from(answer.number())
+        + 256 * u64::from(step.kind())
+        + 65536 * u64::from(inside)
+        + 4294967296 * u64::from(answer.value())
 }
 
 // The answer's number and its value.

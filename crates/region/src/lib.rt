@@ -19,23 +19,22 @@ pub fn region_of(high: u8, middle: u8, low: u8) -> Region
     ensures { result ≡ region_of high middle low }
 {
     Region {
-        base: (high as u32) * 16777216 + (middle as u32) * 65536 + ((low / 16) as u32) * 4096,
-        code: low % 16,
+        base: u32::from_be_bytes([high, middle, low & 0xf0, 0]),
+        code: low & 0xf,
     }
 }
 
 // The bytes that a size code names.
+#[tactic(auto, unfolding(crate::specs::Region::size_of))]
 pub fn size_of(code: u8) -> u64
     ensures value { result ≡ size_of code }
     ensures bounded { result ≤ 4294967296 }
 {
-    if code == 0 {
-        return 0;
+    match code {
+        0 => 0,
+        1..=14 => 4096 << (code - 1),
+        _ => 4294967296,
     }
-    if code <= 14 {
-        return 4096u64 << ((code - 1) as u32);
-    }
-    4294967296
 }
 
 // Whether a base is a multiple of the size that a usable code names.
@@ -43,33 +42,25 @@ fn is_aligned(base: u32, code: u8) -> bool
     requires { (1 ≤ code) × (code ≤ largest_code) }
     ensures { result ≡ eqb (base % size_of code) 0 }
 {
-    11 + (code as u32) <= u32::trailing_zeros(base)
+    11 + u32::from(code) <= base.trailing_zeros()
 }
 
 impl Region {
+    #[tactic(auto, unfolding(crate::specs::Region::usable))]
     pub fn is_usable(self) -> bool
         ensures { result ≡ usable self }
     {
-        let code = self.code;
-        if code < 1 {
-            return false;
-        }
-        if LARGEST_CODE < code {
-            return false;
-        }
-        is_aligned(self.base, code)
+        // Two tests and no range: what `contains` of a range ensures leaves goals open here.
+        1 <= self.code && self.code <= LARGEST_CODE && is_aligned(self.base, self.code)
     }
 
     // Whether an address is in this region, and the region usable.
+    #[tactic(auto, unfolding(crate::specs::Region::within))]
     pub fn contains(self, address: u64) -> bool
         ensures { result ≡ within self address }
     {
-        if self.is_usable() {
-            // The base is a multiple of the size, a power of two: so an address in the region has the base's bits from the size up.
-            let mask = !(size_of(self.code) - 1);
-            return address & mask == self.base as u64;
-        }
-        false
+        // The base is a multiple of the size, a power of two: so an address in the region has the base's bits from the size up.
+        self.is_usable() && address & !(size_of(self.code) - 1) == u64::from(self.base)
     }
 }
 

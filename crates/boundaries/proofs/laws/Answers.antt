@@ -3,4 +3,4 @@ use Rattle.boundaries.proofs.Canonical.{recordable, canonical}
 use Rattle.boundaries.proofs.laws.Goals as goal
 
 pub returns : goal.returns
-returns c = (recordable, canonical _ (λ i. omega (arith, c.shared_slice_known-1.given i)))
+returns c = (recordable, canonical _ (λ i. omega (arith, c.type_inv.body i)))

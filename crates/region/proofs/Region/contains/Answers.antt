@@ -7,20 +7,17 @@ use Prim.Native.Nat.{◌+◌, ◌-◌, ◌%◌}
 use native.Mathlib.Omega.{arith}
 use Rattle.region.proofs.Region.contains.Goals as goal
 
-pub overflow_sub-mask : goal.overflow_sub-mask
-overflow_sub-mask c = omega (arith, (usable_has _ (sym c.is_usable.ensures ∙ c.if-is_usable.true)).least, c.size_of.ensures.value)
+pub overflow_sub-result : goal.overflow_sub-result
+overflow_sub-result c = omega (arith, (usable_has _ (sym c.is_usable.ensures ∙ c.if-is_usable.true)).least, c.size_of.ensures.value)
 
 pub returns-then-is_usable : goal.returns-then-is_usable
 unfolding within
-returns-then-is_usable c = let g = c.args in
+returns-then-is_usable c =
+    let g = c.args in
     let n = 11 + g.self.code in
     let size = c.size_of.result in
     let e = sym c.is_usable.ensures ∙ c.if-is_usable.true in
     let u = usable_has g.self e in
     let p = size_power g.self.code u.named (omega (arith, u.small)) in
     let m : 18446744073709551615 - (size - 1) ≡ 18446744073709551616 - size_of g.self.code = omega (arith, u.least) in
-    simp (e, m, p) (masked_is 64 n g.address g.self.base (omega arith) (omega arith) (ap (λ s. g.self.base % s) (sym p) ∙ u.aligned))
-
-pub returns : goal.returns
-unfolding within
-returns c = simp (sym c.is_usable.ensures ∙ c.if-is_usable.false)
+    simp (e, m, p, c.from.ensures) (masked_is 64 n g.address g.self.base (omega arith) (omega arith) (ap (λ s. g.self.base % s) (sym p) ∙ u.aligned))
