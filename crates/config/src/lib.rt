@@ -1,9 +1,8 @@
 #![tactic(auto)]
 
-ghost use Rattle.std.specs.Prelude.{◌≡◌, false, ◌&&◌, eqb};
+ghost use Rattle.std.specs.Prelude.{◌≡◌, false};
 ghost use Rattle.config.specs.Ports.{always_internal, internal, indexed, answering, port_read, port_write};
 ghost use Rattle.config.specs.Numbers.{OtherPorts, PortOfIndex, PortOfData, InternalByNumber};
-ghost use Rattle.steps.specs.declared.Answer.TheVariants.{External};
 
 use settings::Settings;
 use steps::Answer;
@@ -16,7 +15,7 @@ pub struct Config {
     pub armed: bool,
 }
 
-// The configuration after a port access, and the answer.
+// The configuration after a port access, and the answer. The rules name both fields, as they name those of a machine's step.
 #[derive(Clone, Copy)]
 pub struct Accessed {
     pub config: Config,
@@ -24,113 +23,79 @@ pub struct Accessed {
 }
 
 // Whether port 23h always reaches a configuration register at this index.
+#[tactic(auto, unfolding(crate::specs::Ports::always_internal))]
 fn is_always_internal(index: u8) -> bool
     ensures { result ≡ always_internal index }
 {
-    if 0xFE <= index {
-        return true;
-    }
-    if index < 0xC0 {
-        return false;
-    }
-    index <= 0xCF
+    matches!(index, 0xC0..=0xCF | 0xFE | 0xFF)
 }
 
 // Whether port 23h reaches a configuration register at this index.
+#[tactic(auto, unfolding(crate::specs::Ports::internal))]
 fn is_internal(s: Settings, index: u8) -> bool
     ensures { result ≡ internal s index }
 {
-    if is_always_internal(index) {
-        return true;
-    }
-    let edition = s.edition;
-    if edition.is_mii() {
-        return s.mapen();
-    }
-    false
-}
-
-// A byte as a value that is answered.
-fn wide(x: u8) -> u32
-    ensures { result ≡ x }
-{
-    x as u32
+    is_always_internal(index) || (s.edition.is_mii() && s.mapen())
 }
 
 impl Config {
-    // Whether an access reaches the index: port 23h, when armed.
-    fn is_reached(self, port: u16) -> bool
-        ensures { result ≡ (eqb port 0x23 && self.armed) }
-    {
-        if port == 0x23 {
-            return self.armed;
-        }
-        false
-    }
-
     fn disarmed(self) -> Config
         ensures { result ≡ indexed self.settings self.index false }
     {
-        let mut next = self;
-        next.armed = false;
-        next
+        Config {
+            armed: false,
+            ..self
+        }
     }
 
-    fn external(self) -> Accessed
-        ensures { result ≡ answering self External }
+    fn answering(self, answer: Answer) -> Accessed
+        ensures { result ≡ answering self answer }
     {
         Accessed {
             config: self,
-            answer: Answer::External,
+            answer,
         }
     }
 
-    // A read of a port.
+    // A read of a port: port 23h, when armed, reaches the index.
+    #[tactic(auto, unfolding(crate::specs::Ports::port_read))]
     pub fn read(self, port: u16) -> Accessed
         ensures { result ≡ port_read self port }
     {
-        let after = self.disarmed();
-        if self.is_reached(port) {
-            let index = self.index;
-            let s = self.settings;
-            if is_internal(s, index) {
-                return Accessed {
-                    config: after,
-                    answer: Answer::Value(wide(s.byte(index))),
-                };
-            }
-            return after.external();
+        if port != 0x23 || !self.armed {
+            return self.answering(Answer::External);
         }
-        self.external()
+        let after = self.disarmed();
+        if is_internal(self.settings, self.index) {
+            after.answering(Answer::Value(u32::from(self.settings.byte(self.index))))
+        } else {
+            after.answering(Answer::External)
+        }
     }
 
     // A write to a port.
+    #[tactic(auto, unfolding(crate::specs::Ports::port_write))]
     pub fn write(self, port: u16, value: u8, inside: bool) -> Accessed
         ensures { result ≡ port_write self port value inside }
     {
-        let mut next = self.disarmed();
-        if port == 0x22 {
-            next.index = value;
-            next.armed = true;
-            return Accessed {
-                config: next,
-                answer: Answer::Done,
-            };
+        match port {
+            0x22 => Config {
+                index: value,
+                armed: true,
+                ..self
+            }
+            .answering(Answer::Done),
+            0x23 if self.armed => {
+                let after = self.disarmed();
+                if is_internal(self.settings, self.index) {
+                    let settings = self.settings.write(self.index, value, inside);
+                    Config { settings, ..after }.answering(Answer::Done)
+                } else {
+                    after.answering(Answer::External)
+                }
+            }
+            _ => self.answering(Answer::External),
         }
-        if !self.is_reached(port) {
-            return self.external();
-        }
-        let index = self.index;
-        let s = self.settings;
-        if is_internal(s, index) {
-            let after = s.write(index, value, inside);
-            next.settings = after;
-            return Accessed {
-                config: next,
-                answer: Answer::Done,
-            };
-        }
-        next.external()
     }
 }
 

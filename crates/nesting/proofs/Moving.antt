@@ -1,9 +1,10 @@
 -- What entry and RSM alter of the settings. Assumes nothing.
 use mathlib.Core.Path.{◌≡◌, refl, ◌∙◌}
-use mathlib.Core.Bool.{Bool, true, false}
+use mathlib.Core.Bool.{false}
 use Prim.Native.Nat.{ℕ, ◌+◌, ◌*◌, ◌/◌, ◌%◌, ◌≤◌}
 use native.Mathlib.Omega.{arith}
 use lib.Dec.{eqb}
+use Rattle.std.proofs.lemmas.Bool.Decides.{nat_tests}
 use borrow.Author.Tests.{eqb-false, ne_eqb}
 use Rattle.fields.specs.Fields.{bit}
 use Rattle.fields.proofs.Bits.{bit_of, both_bits}
@@ -44,20 +45,9 @@ bits_asked s = (
   λ e. rw e (refl, refl),
 )
 
-set : (b : Bool) → bit b ≡ 1 → b ≡ true
-set true e = refl
-set false e = absurd (omega arith)
-
-clear : (b : Bool) → bit b ≡ 0 → b ≡ false
-clear true e = absurd (omega arith)
-clear false e = refl
-
 pub bits_examples : BitsExamples
-unfolding with_byte
-bits_examples s e =
-    let at : (v : ℕ) → (bit (enhanced (with_byte s 0xea v)) ≡ v % 2) × (bit (nestable (with_byte s 0xea v)) ≡ v % 2 * (v / 64 % 2))
-    = λ v. (bits_asked (with_byte s 0xea v)).0 e in
-    (set _ (at 0xff).1, set _ (at 0xbf).0, clear _ (at 0xbf).1, clear _ (at 0xfe).0)
+unfolding enhanced nestable with_byte
+bits_examples s e = rw e (refl, refl, refl, refl)
 
 -- another N leaves the rest
 with_n_lem : (s : Settings) (n : ℕ) → n ≤ 1 → OnlyN s (with_n s n) n
@@ -94,9 +84,4 @@ last_n s n k h =
 
 pub last_moves : LastMoves
 unfolding entered_settings resumed_settings
-last_moves s = go (enhanced s) refl
-  where
-    go : (b : Bool) → enhanced s ≡ b
-        → (resumed_settings (entered_settings s) ≡ resumed_settings s) × (resumed_settings (resumed_settings s) ≡ resumed_settings s)
-    go true e = rw (e, still_enhanced s 0 (omega arith), still_enhanced s 1 (omega arith), e) (last_n s 0 1 (omega arith), last_n s 1 1 (omega arith))
-    go false e = rw (e, e) (refl, refl)
+last_moves s = grind (arith, nat_tests, still_enhanced s 0, still_enhanced s 1, last_n s 0 1, last_n s 1 1)

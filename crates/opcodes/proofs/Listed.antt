@@ -1,18 +1,17 @@
 -- The decoding by its table. Assumes nothing.
 use mathlib.Core.Path.{◌≡◌, refl}
-use mathlib.Core.Bool.{Bool, true, false, cond}
+use mathlib.Core.Bool.{cond}
 use mathlib.Core.List.{List, [], ◌∷◌, ◌++◌}
 use Prim.Native.Nat.{ℕ, zero, suc, ◌/◌, ◌%◌, ◌<◌}
 use native.Mathlib.Omega.{arith}
 use lib.ListN.{get_or}
-use lib.Dec.{eqb, ltb}
-use borrow.Author.Tests.{eq-eqb, ne_eqb, ltb-true, ltb-false, le-ltb}
+use Rattle.std.proofs.lemmas.Bool.Decides.{nat_tests}
+use lib.Dec.{eqb}
+use borrow.Author.Tests.{ne_eqb, le-ltb}
 use Rattle.fields.specs.Fields.{bytes_of}
 use Rattle.fields.proofs.Cases.{both, either}
-use Rattle.fields.proofs.Bits.{bit_of, bit_not}
 use Rattle.settings.specs.declared.Edition.{Edition}
 use Rattle.settings.specs.declared.Edition.TheVariants.{Cx486, Mii}
-use Rattle.settings.specs.Settings.{smi_lock}
 use Rattle.segments.specs.declared.SegmentName.TheVariants.{Es, Cs, Ss, Ds, Fs, Gs, Ldtr, Tr}
 use Rattle.opcodes.specs.declared.Operation.{Operation}
 use Rattle.opcodes.specs.declared.Operation.TheVariants.{Save, Restore, Rdshr, Wrshr, Smint, Rsm, Undefined}
@@ -24,10 +23,7 @@ unfolding bytes_of
 sized_by_bytes n d s v = (refl, refl, refl, refl, refl, refl, refl)
 
 pub allowed_by_bits : AllowedByBits
-allowed_by_bits s n =
-    let lock = bit_of (s.ccr3 % 2) (omega arith) in
-    let free = bit_not (smi_lock s) in
-    (refl, refl, refl, refl, omega (arith, lock, free), refl, λ inside. (refl, refl, refl, refl))
+allowed_by_bits s n = (refl, refl, refl, refl, grind (arith, nat_tests), refl, λ inside. (refl, refl, refl, refl))
 
 -- ---- an opcode's operations by the field
 
@@ -55,7 +51,7 @@ rsdc_listed (suc (suc (suc (suc (suc (suc f)))))) =
 
 plain_listed : (f : ℕ) (o : Operation) → plain f o ≡ get_or (o ∷ []) f Undefined
 plain_listed zero o = refl
-plain_listed (suc f) o = rw (ne_eqb (suc f) 0 (λ e. omega arith))
+plain_listed (suc f) o = grind (arith, nat_tests)
 
 -- ---- the table
 
@@ -84,14 +80,9 @@ module _ (op f : ℕ) where
       same_group Mii news
       (both Same (eqb op 54) (λ h. plain_listed f Rdshr) (λ h. both Same (eqb op 55) (λ h. plain_listed f Wrshr) (λ h. refl)))
 
--- a mod of 3 in a byte
-mod_3 : (m : ℕ) (b : Bool) (o : Operation) → m < 256 → ltb m 192 ≡ b → cond (eqb (m / 64) 3) Undefined o ≡ cond b o Undefined
-mod_3 m true o l e = rw (ne_eqb (m / 64) 3 (λ (g : m / 64 ≡ 3). omega (arith, ltb-true m 192 e)))
-mod_3 m false o l e = rw (eq-eqb (m / 64) 3 (omega (arith, ltb-false m 192 e)))
-
 as_listed : (smint op m : ℕ) (rows : List Row) (o : Operation) → m < 256 → o ≡ get_or (found rows op) (m / 8 % 8) Undefined
     → cond (eqb op smint) Smint (cond (eqb op 170) Rsm (cond (eqb (m / 64) 3) Undefined o)) ≡ listed smint rows op m
-as_listed smint op m rows o l e = rw (mod_3 m (ltb m 192) o l refl, e)
+as_listed smint op m rows o l e = grind (arith, nat_tests)
 
 pub as_table : (e : Edition) (op modrm : ℕ) → modrm < 256 → operation_of e op modrm ≡ listed_in e op modrm
 unfolding operation_of

@@ -1,7 +1,7 @@
 #![tactic(auto)]
 
-ghost use Rattle.std.specs.Prelude.{◌≡◌};
-ghost use Rattle.opcodes.specs.Decode.{data_segment, svdc, rsdc, plain, later, grouped, smint_opcode, operation_of, operand_size, allowed};
+ghost use Rattle.std.specs.Prelude.{◌≡◌, cond, ltb, Some, None};
+ghost use Rattle.opcodes.specs.Decode.{data_segment, svdc, rsdc, grouped, smint_opcode, operation_of, operand_size, allowed};
 ghost use Rattle.opcodes.specs.Bytes.{ResumedBy, SavedBy, CsNotRestored, SevenRestored};
 ghost use Rattle.opcodes.specs.Listed.{listed_in, SizedByBytes, AllowedByBits};
 
@@ -9,7 +9,7 @@ use segments::SegmentName;
 use settings::{Edition, Settings};
 
 // What an opcode asks for.
-#[derive(Clone, Copy)]
+#[derive(Clone, Copy, PartialEq, Eq)]
 pub enum Operation {
     Save(SegmentName),
     Restore(SegmentName),
@@ -21,72 +21,52 @@ pub enum Operation {
 }
 
 // The segment register that the middle field of SVDC and RSDC names.
-fn data_segment(field: u8) -> SegmentName
-    ensures { result ≡ data_segment field }
+#[tactic(auto, unfolding(crate::specs::Decode::data_segment))]
+fn data_segment(field: u8) -> Option<SegmentName>
+    ensures { result ≡ cond (ltb field 6) (Some (data_segment field)) None }
 {
     match field {
-        0 => SegmentName::Es,
-        1 => SegmentName::Cs,
-        2 => SegmentName::Ss,
-        3 => SegmentName::Ds,
-        4 => SegmentName::Fs,
-        _ => SegmentName::Gs,
+        0 => Some(SegmentName::Es),
+        1 => Some(SegmentName::Cs),
+        2 => Some(SegmentName::Ss),
+        3 => Some(SegmentName::Ds),
+        4 => Some(SegmentName::Fs),
+        5 => Some(SegmentName::Gs),
+        _ => None,
     }
 }
 
 fn svdc_of(field: u8) -> Operation
     ensures { result ≡ svdc field }
 {
-    if field < 6 {
-        return Operation::Save(data_segment(field));
-    }
-    Operation::Undefined
+    data_segment(field).map_or(Operation::Undefined, Operation::Save)
 }
 
 // CS is not restored.
+#[tactic(auto, unfolding(crate::specs::Decode::data_segment))]
 fn rsdc_of(field: u8) -> Operation
     ensures { result ≡ rsdc field }
 {
-    if field == 1 {
-        return Operation::Undefined;
-    }
-    if field < 6 {
-        return Operation::Restore(data_segment(field));
-    }
-    Operation::Undefined
-}
-
-// An operation whose middle field is to be 0.
-fn plain_of(field: u8, o: Operation) -> Operation
-    ensures { result ≡ plain field o }
-{
-    if field == 0 { o } else { Operation::Undefined }
-}
-
-// An operation that only the later edition has.
-fn later_of(edition: Edition, o: Operation) -> Operation
-    ensures { result ≡ later edition o }
-{
-    if edition.is_mii() {
-        o
-    } else {
-        Operation::Undefined
+    match data_segment(field) {
+        None | Some(SegmentName::Cs) => Operation::Undefined,
+        Some(name) => Operation::Restore(name),
     }
 }
 
-// The opcodes that have an operand in memory.
+// The opcodes that have an operand in memory: RDSHR and WRSHR are of the later edition alone.
+#[tactic(auto, unfolding(crate::specs::Decode::grouped))]
 fn grouped_of(edition: Edition, opcode: u8, field: u8) -> Operation
     ensures { result ≡ grouped edition opcode field }
 {
-    match opcode {
-        0x78 => svdc_of(field),
-        0x79 => rsdc_of(field),
-        0x7A => plain_of(field, Operation::Save(SegmentName::Ldtr)),
-        0x7B => plain_of(field, Operation::Restore(SegmentName::Ldtr)),
-        0x7C => plain_of(field, Operation::Save(SegmentName::Tr)),
-        0x7D => plain_of(field, Operation::Restore(SegmentName::Tr)),
-        0x36 => later_of(edition, plain_of(field, Operation::Rdshr)),
-        0x37 => later_of(edition, plain_of(field, Operation::Wrshr)),
+    match (opcode, field) {
+        (0x78, _) => svdc_of(field),
+        (0x79, _) => rsdc_of(field),
+        (0x7A, 0) => Operation::Save(SegmentName::Ldtr),
+        (0x7B, 0) => Operation::Restore(SegmentName::Ldtr),
+        (0x7C, 0) => Operation::Save(SegmentName::Tr),
+        (0x7D, 0) => Operation::Restore(SegmentName::Tr),
+        (0x36, 0) if edition.is_mii() => Operation::Rdshr,
+        (0x37, 0) if edition.is_mii() => Operation::Wrshr,
         _ => Operation::Undefined,
     }
 }
@@ -94,23 +74,26 @@ fn grouped_of(edition: Edition, opcode: u8, field: u8) -> Operation
 fn smint_opcode(edition: Edition) -> u8
     ensures { result ≡ smint_opcode edition }
 {
-    if edition.is_mii() { 0x38 } else { 0x7E }
+    match edition {
+        Edition::Cx486 => 0x7E,
+        Edition::Mii => 0x38,
+    }
 }
 
 // The operation that the byte after 0Fh and ModRM ask for.
+#[tactic(auto, unfolding(crate::specs::Decode::operation_of))]
 pub fn decode(edition: Edition, opcode: u8, modrm: u8) -> Operation
     ensures { result ≡ operation_of edition opcode modrm }
 {
     if opcode == smint_opcode(edition) {
-        return Operation::Smint;
+        Operation::Smint
+    } else if opcode == 0xAA {
+        Operation::Rsm
+    } else if modrm >> 6 == 3 {
+        Operation::Undefined
+    } else {
+        grouped_of(edition, opcode, modrm >> 3 & 7)
     }
-    if opcode == 0xAA {
-        return Operation::Rsm;
-    }
-    if modrm / 64 == 3 {
-        return Operation::Undefined;
-    }
-    grouped_of(edition, opcode, modrm / 8 % 8)
 }
 
 impl Operation {
@@ -119,13 +102,9 @@ impl Operation {
         ensures { result ≡ operand_size self }
     {
         match self {
-            Operation::Save(_) => 10,
-            Operation::Restore(_) => 10,
-            Operation::Rdshr => 4,
-            Operation::Wrshr => 4,
-            Operation::Smint => 0,
-            Operation::Rsm => 0,
-            Operation::Undefined => 0,
+            Operation::Save(_) | Operation::Restore(_) => 10,
+            Operation::Rdshr | Operation::Wrshr => 4,
+            Operation::Smint | Operation::Rsm | Operation::Undefined => 0,
         }
     }
 
@@ -134,27 +113,10 @@ impl Operation {
         ensures { result ≡ allowed s inside self }
     {
         match self {
-            Operation::Save(_) => true,
-            Operation::Restore(_) => true,
-            Operation::Rdshr => true,
-            Operation::Wrshr => {
-                if inside {
-                    return true;
-                }
-                !s.smi_lock()
-            }
-            Operation::Smint => {
-                if inside {
-                    return false;
-                }
-                s.fits_header()
-            }
-            Operation::Rsm => {
-                if inside {
-                    return s.fits_header();
-                }
-                false
-            }
+            Operation::Save(_) | Operation::Restore(_) | Operation::Rdshr => true,
+            Operation::Wrshr => inside || !s.smi_lock(),
+            Operation::Smint => !inside && s.fits_header(),
+            Operation::Rsm => inside && s.fits_header(),
             Operation::Undefined => false,
         }
     }

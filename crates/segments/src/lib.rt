@@ -6,7 +6,7 @@ ghost use Rattle.segments.specs.Segments.{is_cs, segment_named, with_named, rese
 
 use memory::Segment;
 
-#[derive(Clone, Copy)]
+#[derive(Clone, Copy, PartialEq, Eq)]
 pub enum SegmentName {
     Es,
     Cs,
@@ -33,20 +33,12 @@ impl SegmentName {
     pub fn is_cs(self) -> bool
         ensures { result ≡ is_cs self }
     {
-        match self {
-            SegmentName::Es => false,
-            SegmentName::Cs => true,
-            SegmentName::Ss => false,
-            SegmentName::Ds => false,
-            SegmentName::Fs => false,
-            SegmentName::Gs => false,
-            SegmentName::Ldtr => false,
-            SegmentName::Tr => false,
-        }
+        matches!(self, SegmentName::Cs)
     }
 }
 
 // The segments after a reset.
+#[tactic(auto, unfolding(fields::specs::Fields::number_by))]
 pub fn initial() -> Segments
     ensures { result ≡ reset_segments }
 {
@@ -99,31 +91,18 @@ impl Segments {
     pub fn with_named(self, name: SegmentName, value: Segment) -> Segments
         ensures { result ≡ with_named self name value }
     {
-        let mut next = self;
         match name {
-            SegmentName::Es => {
-                next.es = value;
-            }
-            SegmentName::Cs => {}
-            SegmentName::Ss => {
-                next.ss = value;
-            }
-            SegmentName::Ds => {
-                next.ds = value;
-            }
-            SegmentName::Fs => {
-                next.fs = value;
-            }
-            SegmentName::Gs => {
-                next.gs = value;
-            }
-            SegmentName::Ldtr => {
-                next.ldtr = value;
-            }
-            SegmentName::Tr => {
-                next.tr = value;
-            }
+            SegmentName::Es => Segments { es: value, ..self },
+            SegmentName::Cs => self,
+            SegmentName::Ss => Segments { ss: value, ..self },
+            SegmentName::Ds => Segments { ds: value, ..self },
+            SegmentName::Fs => Segments { fs: value, ..self },
+            SegmentName::Gs => Segments { gs: value, ..self },
+            SegmentName::Ldtr => Segments {
+                ldtr: value,
+                ..self
+            },
+            SegmentName::Tr => Segments { tr: value, ..self },
         }
-        next
     }
 }

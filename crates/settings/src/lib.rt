@@ -8,14 +8,14 @@ use region::Region;
 const HEADER_LENGTH: u64 = 48;
 
 // The edition of the core.
-#[derive(Clone, Copy)]
+#[derive(Clone, Copy, PartialEq, Eq)]
 pub enum Edition {
     Cx486,
     Mii,
 }
 
 // The edition, which no step changes, and the stored configuration bytes: CCR1, CCR3, and the SMAR bytes CDh, CEh and CFh; of the later
-// edition CCR6, and the SMHR bytes B0h to B3h.
+// edition CCR6, and the SMHR bytes B0h to B3h. Each byte is a field, by whose name the theorems on the lock and on isolation speak of it.
 #[derive(Clone, Copy)]
 pub struct Settings {
     pub edition: Edition,
@@ -32,38 +32,32 @@ pub struct Settings {
 }
 
 // The bits that the lock covers outside the mode.
+#[tactic(auto, unfolding(crate::specs::Settings::locked_bits))]
 fn locked_bits(edition: Edition, index: u8) -> u8
     ensures { result ≡ locked_bits edition index }
 {
     match index {
         0xC1 => 0x0E,
         0xC3 => 0x03,
-        0xCD => 0xFF,
-        0xCE => 0xFF,
-        0xCF => 0xFF,
+        0xCD | 0xCE | 0xCF => 0xFF,
         _ => later_bits(edition, index),
     }
 }
 
 // Those of the bytes that only the later edition has.
+#[tactic(auto, unfolding(crate::specs::Settings::later_bits))]
 fn later_bits(edition: Edition, index: u8) -> u8
     ensures { result ≡ later_bits edition index }
 {
-    if edition.is_mii() {
-        match index {
-            0xEA => 0x41,
-            0xB0 => 0xFF,
-            0xB1 => 0xFF,
-            0xB2 => 0xFF,
-            0xB3 => 0xFF,
-            _ => 0,
-        }
-    } else {
-        0
+    match (edition, index) {
+        (Edition::Mii, 0xEA) => 0x41,
+        (Edition::Mii, 0xB0 | 0xB1 | 0xB2 | 0xB3) => 0xFF,
+        _ => 0,
     }
 }
 
 // The bits that it covers inside.
+#[tactic(auto, unfolding(crate::specs::Settings::sticky_bits))]
 fn sticky_bits(index: u8) -> u8
     ensures { result ≡ sticky_bits index }
 {
@@ -74,69 +68,67 @@ fn sticky_bits(index: u8) -> u8
 fn merge(mask: u8, old: u8, value: u8) -> u8
     ensures { result ≡ merged mask old value }
 {
-    (old & mask) | (value & (255 - mask))
+    (old & mask) | (value & !mask)
 }
 
 impl Edition {
     pub fn is_mii(self) -> bool
         ensures { result ≡ is_mii self }
     {
-        match self {
-            Edition::Cx486 => false,
-            Edition::Mii => true,
-        }
+        matches!(self, Edition::Mii)
     }
 }
 
 impl Settings {
+    // The bits by their names: a helper that takes a bit's number would make none of them shorter.
     fn use_smi(self) -> bool
         ensures { result ≡ use_smi self }
     {
-        self.ccr1 / 2 % 2 == 1
+        self.ccr1 >> 1 & 1 == 1
     }
 
     fn smac(self) -> bool
         ensures { result ≡ smac self }
     {
-        self.ccr1 / 4 % 2 == 1
+        self.ccr1 >> 2 & 1 == 1
     }
 
     fn mmac(self) -> bool
         ensures { result ≡ mmac self }
     {
-        self.ccr1 / 8 % 2 == 1
+        self.ccr1 >> 3 & 1 == 1
     }
 
     pub fn smi_lock(self) -> bool
         ensures { result ≡ smi_lock self }
     {
-        self.ccr3 % 2 == 1
+        self.ccr3 & 1 == 1
     }
 
     pub fn mapen(self) -> bool
         ensures { result ≡ mapen self }
     {
-        self.ccr3 / 16 % 16 == 1
+        self.ccr3 >> 4 == 1
     }
 
     pub fn smhr(self) -> u32
         ensures { result ≡ smhr self }
     {
-        self.smhr0 as u32
-            + self.smhr1 as u32 * 256
-            + self.smhr2 as u32 * 65536
-            + self.smhr3 as u32 * 16777216
+        u32::from_le_bytes([self.smhr0, self.smhr1, self.smhr2, self.smhr3])
     }
 
+    #[tactic(auto, unfolding(crate::specs::Settings::with_smhr))]
     pub fn with_smhr(self, value: u32) -> Settings
         ensures { result ≡ with_smhr self value }
     {
-        let mut next = self;
-        next.smhr0 = (value % 256) as u8;
-        next.smhr1 = (value / 256 % 256) as u8;
-        next.smhr2 = (value / 65536 % 256) as u8;
-        next.smhr3 = (value / 16777216 % 256) as u8;
-        next
+        let [smhr0, smhr1, smhr2, smhr3] = value.to_le_bytes();
+        Settings {
+            smhr0,
+            smhr1,
+            smhr2,
+            smhr3,
+            ..self
+        }
     }
 
     // The region that SMAR names.
@@ -146,103 +138,73 @@ impl Settings {
         region::region_of(self.high, self.middle, self.low)
     }
 
-    // The region whose bytes management memory answers: of code 0 where all goes to main memory.
+    // The region whose bytes management memory answers. Where all goes to main memory it is of code 0, which names no region by the papers' own
+    // words: so this is no Option.
+    #[tactic(auto, unfolding(crate::specs::Settings::window_of))]
     pub fn window(self, inside: bool) -> Region
         ensures { result ≡ window_of self inside }
     {
         let r = self.region();
-        let none = Region {
-            base: r.base,
-            code: 0,
-        };
-        let smac = self.smac();
-        let mmac = self.mmac();
-        if self.use_smi() {
-            if inside {
-                if mmac {
-                    return none;
-                }
-                return r;
-            }
-            if smac {
-                return r;
-            }
+        let is_open = if inside { !self.mmac() } else { self.smac() };
+        if self.use_smi() && is_open {
+            r
+        } else {
+            Region { code: 0, ..r }
         }
-        none
     }
 
     // Whether SMIs are enabled.
+    #[tactic(auto, unfolding(crate::specs::Settings::enabled))]
     pub fn enables_smi(self) -> bool
         ensures { result ≡ enabled self }
     {
-        if self.use_smi() {
-            if self.smac() {
-                return false;
-            }
-            let r = self.region();
-            if r.is_usable() {
-                return self.fits_header();
-            }
-        }
-        false
+        self.use_smi() && !self.smac() && self.region().is_usable() && self.fits_header()
     }
 
     // Whether the opcodes work inside the mode, or outside it, as far as the settings decide.
+    #[tactic(auto, unfolding(crate::specs::Settings::opcodes_allowed))]
     pub fn allows_opcodes(self, inside: bool) -> bool
         ensures { result ≡ opcodes_allowed self inside }
     {
-        if self.use_smi() {
-            let r = self.region();
-            if r.is_usable() {
-                if inside {
-                    return true;
-                }
-                return self.smac();
-            }
-        }
-        false
+        self.use_smi() && self.region().is_usable() && (inside || self.smac())
     }
 
     // The address that the header ends below.
+    #[tactic(auto, unfolding(crate::specs::Settings::header_end))]
     fn header_end(self) -> u64
         ensures value { result ≡ header_end self }
         ensures bounded { result ≤ (region_in self).base + 4294967296 }
     {
-        let edition = self.edition;
-        if edition.is_mii() {
-            return self.smhr() as u64;
+        if self.edition.is_mii() {
+            u64::from(self.smhr())
+        } else {
+            let r = self.region();
+            u64::from(r.base) + region::size_of(r.code)
         }
-        let r = self.region();
-        r.base as u64 + region::size_of(r.code)
     }
 
     // Whether the header's bytes all lie in the region.
+    #[tactic(auto, unfolding(crate::specs::Settings::header_fits))]
     pub fn fits_header(self) -> bool
         ensures { result ≡ header_fits self }
     {
         let r = self.region();
-        let base = r.base as u64;
+        let base = u64::from(r.base);
         let end = self.header_end();
-        if base + HEADER_LENGTH <= end {
-            return end <= base + region::size_of(r.code);
-        }
-        false
+        base + HEADER_LENGTH <= end && end <= base + region::size_of(r.code)
     }
 
     // The place of the header's first byte in management memory.
+    #[tactic(auto, unfolding(crate::specs::Settings::header_place))]
     pub fn header_place(self) -> u32
         ensures { result ≡ header_place self }
     {
-        let r = self.region();
-        let below = r.base as u64 + HEADER_LENGTH;
-        let end = self.header_end();
-        if end < below {
-            return 0;
-        }
-        (end - below) as u32
+        let below = u64::from(self.region().base) + HEADER_LENGTH;
+        self.header_end().saturating_sub(below) as u32
     }
 
     // The stored byte at an internal index.
+    #[tactic(auto, unfolding(crate::specs::Settings::byte_of))]
     pub fn byte(self, index: u8) -> u8
         ensures { result ≡ byte_of self index }
     {
@@ -261,61 +223,69 @@ impl Settings {
         }
     }
 
+    // The indexes stand a second time: one table for both would have to read through a `&mut` into a copy.
+    #[tactic(auto, unfolding(crate::specs::Settings::with_byte))]
     fn with_byte(self, index: u8, value: u8) -> Settings
         ensures { result ≡ with_byte self index value }
     {
-        let mut next = self;
         match index {
-            0xC1 => {
-                next.ccr1 = value;
-            }
-            0xC3 => {
-                next.ccr3 = value;
-            }
-            0xCD => {
-                next.high = value;
-            }
-            0xCE => {
-                next.middle = value;
-            }
-            0xCF => {
-                next.low = value;
-            }
-            0xEA => {
-                next.ccr6 = value;
-            }
-            0xB0 => {
-                next.smhr0 = value;
-            }
-            0xB1 => {
-                next.smhr1 = value;
-            }
-            0xB2 => {
-                next.smhr2 = value;
-            }
-            0xB3 => {
-                next.smhr3 = value;
-            }
-            _ => {}
+            0xC1 => Settings {
+                ccr1: value,
+                ..self
+            },
+            0xC3 => Settings {
+                ccr3: value,
+                ..self
+            },
+            0xCD => Settings {
+                high: value,
+                ..self
+            },
+            0xCE => Settings {
+                middle: value,
+                ..self
+            },
+            0xCF => Settings { low: value, ..self },
+            0xEA => Settings {
+                ccr6: value,
+                ..self
+            },
+            0xB0 => Settings {
+                smhr0: value,
+                ..self
+            },
+            0xB1 => Settings {
+                smhr1: value,
+                ..self
+            },
+            0xB2 => Settings {
+                smhr2: value,
+                ..self
+            },
+            0xB3 => Settings {
+                smhr3: value,
+                ..self
+            },
+            _ => self,
         }
-        next
     }
 
     // The bits that a write to an index leaves as they are.
+    #[tactic(auto, unfolding(crate::specs::Settings::kept_bits))]
     fn kept_bits(self, index: u8, inside: bool) -> u8
         ensures { result ≡ kept_bits self index inside }
     {
-        if self.smi_lock() {
-            if inside {
-                return sticky_bits(index);
-            }
-            let edition = self.edition;
-            return locked_bits(edition, index);
+        if !self.smi_lock() {
+            0
+        } else if inside {
+            sticky_bits(index)
+        } else {
+            locked_bits(self.edition, index)
         }
-        0
     }
 
     // The settings after a write to an internal index. The lock is tested on the settings before it.
+    #[tactic(auto, unfolding(crate::specs::Settings::written))]
     pub fn write(self, index: u8, value: u8, inside: bool) -> Settings
         ensures { result ≡ written self index value inside }
     {

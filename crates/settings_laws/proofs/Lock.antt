@@ -1,13 +1,15 @@
 -- The lock: what a write outside the mode leaves as it was, and what the locked bits are. Assumes nothing.
 use mathlib.Core.Path.{◌≡◌, refl, sym, ap, subst, ◌∙◌}
 use mathlib.Core.Bool.{Bool, true, false, cond, ◌||◌}
-use Prim.Native.Nat.{ℕ, zero, suc, ◌+◌, ◌*◌, ◌/◌, ◌%◌, ◌^◌, ◌-◌, ◌<◌, min, max}
-use native.Mathlib.Nat.{pow-suc, lt_of_le_of_lt}
+use Prim.Native.Nat.{ℕ, ◌+◌, ◌*◌, ◌/◌, ◌%◌, ◌^◌, ◌-◌, ◌<◌}
+use native.Mathlib.Nat.{lt_of_le_of_lt}
 use native.Mathlib.Omega.{arith}
-use lib.Arith.{lt-one}
-use lib.Bits.{bit_and, bit_or, and_step, or_step, and_shr, or_shr, and_zero_r, and_le_r, or_lt, and_mask, and_high}
+use lib.Bits.{bit_and, and_step, and_zero_r, and_self, and_le_r, or_lt, and_mask, and_high}
+use Rattle.std.proofs.lemmas.Bool.Decides.{nat_tests}
+use Rattle.std.proofs.lemmas.Nat.{and_assoc, and_or_apart}
+use Rattle.std.proofs.lemmas.Grind.{and-not_self}
 use lib.Dec.{eqb}
-use borrow.Author.Tests.{eqb-true, eqb-false}
+use borrow.Author.Tests.{eqb-true}
 use Rattle.settings.specs.declared.Edition.{Edition}
 use Rattle.settings.specs.declared.Edition.TheVariants.{Cx486, Mii}
 use Rattle.settings.specs.declared.Settings.{Settings}
@@ -27,74 +29,22 @@ locked_trans {s} {t} e f = record { edition = e.edition ∙ f.edition; same = λ
 
 -- ---- a merge keeps what the mask covers
 
--- the lowest bits
-and_odd : (a b : ℕ) → bit_and a b % 2 ≡ min (a % 2) (b % 2)
-and_odd a b = omega (arith, and_step a b)
-
-or_odd : (a b : ℕ) → bit_or a b % 2 ≡ max (a % 2) (b % 2)
-or_odd a b = omega (arith, or_step a b)
-
-digit : (m o v : ℕ) → min (max (min (o % 2) (m % 2)) (min (v % 2) (1 - m % 2))) (m % 2) ≡ min (o % 2) (m % 2)
-digit m o v = omega arith
-
--- n bits at once
-bits_keep : (n mask old v : ℕ) → mask < 2 ^ n
-    → bit_and (bit_or (bit_and old mask) (bit_and v (2 ^ n - 1 - mask))) mask ≡ bit_and old mask
-bits_keep zero mask old v h =
-    rw (lt-one h, and_zero_r old) (and_zero_r (bit_or 0 (bit_and v 0)))
-bits_keep (suc n) mask old v h =
-    let p : 2 ^ suc n ≡ 2 ^ n * 2 = pow-suc 2 n in
-    let m = 2 ^ suc n - 1 - mask in
-    let x = bit_and old mask in
-    let y = bit_and v m in
-    let half : m / 2 ≡ 2 ^ n - 1 - mask / 2 = omega arith in
-    let odd : m % 2 ≡ 1 - mask % 2 = omega arith in
-    let ih = bits_keep n (mask / 2) (old / 2) (v / 2) (omega arith) in
-    and_step (bit_or x y) mask
-    ∙ rw (or_shr x y 1, and_shr old mask 1, and_shr v m 1, half, ih, or_odd x y, and_odd old mask, and_odd v m, odd, digit mask old v)
-    (sym (and_step old mask))
+bits_keep : (mask old v : ℕ) → mask < 2 ^ 8 → bit_and (merged mask old v) mask ≡ bit_and old mask
+bits_keep mask old v h =
+    and_or_apart mask (bit_and old mask) (bit_and v (255 - mask)) (and-not_self v 255 mask mask refl (omega arith) refl)
+    ∙ rw (and_assoc mask old mask, and_self mask)
 
 -- ---- a write outside the mode under the lock
 
 -- the byte at another index is none that was stored
-module _ (i j x : ℕ) (other : eqb j i ≡ false) where
-  elsewhere : (k a b : ℕ) (p q : Bool) → eqb j k ≡ p → eqb i k ≡ q → cond p (cond q x a) b ≡ cond p a b
-  elsewhere k a b true true e f = absurd (eqb-false j i other (eqb-true j k e ∙ sym (eqb-true i k f)))
-  elsewhere k a b true false e f = refl
-  elsewhere k a b false q e f = refl
-
-  at : (k a b : ℕ) → cond (eqb j k) (cond (eqb i k) x a) b ≡ cond (eqb j k) a b
-  at k a b = elsewhere k a b (eqb j k) (eqb i k) refl refl
-
-  pub byte_other : (s : Settings) → byte_of (with_byte s i x) j ≡ byte_of s j
-  unfolding byte_of with_byte
-  byte_other s =
-      rw (
-        at 0xc1 s.ccr1 _,
-        at 0xc3 s.ccr3 _,
-        at 0xcd s.high _,
-        at 0xce s.middle _,
-        at 0xcf s.low _,
-        at 0xea s.ccr6 _,
-        at 0xb0 s.smhr0 _,
-        at 0xb1 s.smhr1 _,
-        at 0xb2 s.smhr2 _,
-        at 0xb3 s.smhr3 _,
-      )
+pub byte_other : (i j x : ℕ) → eqb j i ≡ false → (s : Settings) → byte_of (with_byte s i x) j ≡ byte_of s j
+unfolding byte_of with_byte
+byte_other i j x other s = grind (arith, nat_tests)
 
 -- the byte at the index is what was stored, or is 0 as before
-module _ (f : ℕ → ℕ) (n : ℕ) where
-  row : (p : Bool) (x old new : ℕ) → (f n ≡ f old → f new ≡ f old) → f n ≡ f (cond p x old)
-      → f (cond p (cond p n x) new) ≡ f (cond p x old)
-  row true x old new rest h = h
-  row false x old new rest h = rest h
-
-  byte_same : (s : Settings) (i : ℕ) → f n ≡ f (byte_of s i) → f (byte_of (with_byte s i n) i) ≡ f (byte_of s i)
-  unfolding byte_of with_byte
-  byte_same s i =
-      row (eqb i 0xc1) _ _ _ (row (eqb i 0xc3) _ _ _ (row (eqb i 0xcd) _ _ _ (row (eqb i 0xce) _ _ _ (row (eqb i 0xcf) _ _ _
-      (row (eqb i 0xea) _ _ _ (row (eqb i 0xb0) _ _ _ (row (eqb i 0xb1) _ _ _ (row (eqb i 0xb2) _ _ _ (row (eqb i 0xb3) _ _ _
-      (λ h. refl))))))))))
+byte_same : (f : ℕ → ℕ) (n : ℕ) (s : Settings) (i : ℕ) → f n ≡ f (byte_of s i) → f (byte_of (with_byte s i n) i) ≡ f (byte_of s i)
+unfolding byte_of with_byte
+byte_same f n s i h = grind (arith, nat_tests)
 
 -- a number that is below a bound both ways of a test
 below : (p : Bool) {a b n : ℕ} → a < n → b < n → cond p a b < n
@@ -103,13 +53,7 @@ below false h k = k
 
 locked_byte : (e : Edition) (i : ℕ) → locked_bits e i < 2 ^ 8
 unfolding locked_bits later_bits
-locked_byte e i =
-    below (eqb i 0xc1) (omega arith)
-    (below (eqb i 0xc3) (omega arith)
-    (below (eqb i 0xcd || eqb i 0xce || eqb i 0xcf) (omega arith)
-    (below (is_mii e)
-    (below (eqb i 0xea) (omega arith) (below (eqb i 0xb0 || eqb i 0xb1 || eqb i 0xb2 || eqb i 0xb3) (omega arith) (omega arith)))
-    (omega arith))))
+locked_byte e i = grind (arith, nat_tests)
 
 -- what the lock covers outside the mode is in no write's reach
 pub written_locked : (s : Settings) (i v : ℕ) → smi_lock s ≡ true → SameLocked (written s i v false) s
@@ -121,15 +65,14 @@ written_locked s i v e = record { edition = refl; same = λ j. go j (eqb j i) re
     go j true h =
         let mask = locked_bits s.edition i in
         rw (e, eqb-true j i h)
-        (byte_same (λ x. bit_and x mask) (merged mask (byte_of s i) v) s i (bits_keep 8 mask (byte_of s i) v (locked_byte s.edition i)))
+        (byte_same (λ x. bit_and x mask) (merged mask (byte_of s i) v) s i (bits_keep mask (byte_of s i) v (locked_byte s.edition i)))
     go j false h = rw (byte_other i j (merged (kept_bits s i false) (byte_of s i) v) h s)
 
 -- ---- every write leaves bytes
 
 kept_byte : (s : Settings) (i : ℕ) (inside : Bool) → kept_bits s i inside < 2 ^ 8
 unfolding kept_bits sticky_bits
-kept_byte s i inside =
-    below (smi_lock s) (below inside (below (eqb i 0xc3) (omega arith) (omega arith)) (locked_byte s.edition i)) (omega arith)
+kept_byte s i inside = grind (arith, nat_tests, locked_byte)
 
 merged_byte : (mask old v : ℕ) → mask < 2 ^ 8 → merged mask old v < 2 ^ 8
 merged_byte mask old v h =
@@ -157,11 +100,7 @@ written_fits s i v inside h =
 
 -- bits 0 and 6
 and_41h : (x : ℕ) → bit_and x 0x41 ≡ x / 64 % 2 * 64 + x % 2
-and_41h x =
-    let e : bit_and x 0x41 ≡ bit_and (x / 2) 0x20 * 2 + min (x % 2) 1 = and_step x 0x41 in
-    let f : bit_and (x / 2) 0x20 ≡ x / 2 / 32 % 2 * 32 = and_high (x / 2) 1 5 in
-    let q : x / 2 / 32 ≡ x / 64 = omega arith in
-    rw (e, f, q) (omega arith)
+and_41h x = omega (arith, and_step x 0x41, and_high (x / 2) 1 5)
 
 module _ {s t : Settings} (k : SameLocked s t) where
   same_ccr1 : s.ccr1 / 2 % 8 ≡ t.ccr1 / 2 % 8

@@ -1,9 +1,10 @@
 -- Where the header lies, what the locked bits say of it, and routing outside the mode. Assumes nothing.
 use mathlib.Core.Path.{◌≡◌, refl}
-use mathlib.Core.Bool.{true, false, and-false, and-eq-true_iff}
-use Prim.Native.Nat.{ℕ, ◌+◌, ◌*◌, ◌/◌, ◌≤◌}
+use mathlib.Core.Bool.{true, false, and-false}
+use Prim.Native.Nat.{ℕ, ◌+◌, ◌≤◌}
 use native.Mathlib.Omega.{arith}
-use borrow.Author.Tests.{leb-true, le-leb, lt-leb}
+use Rattle.std.proofs.lemmas.Nat.{from_le_bytes-to_le_bytes_4}
+use Rattle.std.proofs.lemmas.Bool.Decides.{nat_tests}
 use Rattle.region.specs.Region.{size_of, usable, within}
 use Rattle.region.proofs.Usable.{usable_has}
 use Rattle.region.proofs.Laws.{within_has, within_is}
@@ -12,7 +13,7 @@ use Rattle.header.specs.Header.{header_length}
 use Rattle.settings.specs.declared.Edition.{Edition}
 use Rattle.settings.specs.declared.Edition.TheVariants.{Cx486, Mii}
 use Rattle.settings.specs.declared.Settings.{Settings}
-use Rattle.settings.specs.Settings.{use_smi, smac, smhr, region_in, window_of, header_end, header_fits, header_place, enabled, byte_of, with_smhr, SameLocked}
+use Rattle.settings.specs.Settings.{use_smi, smac, region_in, window_of, header_end, header_fits, header_place, enabled, byte_of, with_smhr, SameLocked}
 use Rattle.settings_laws.specs.Locked.{Fixed486, Fixed, SettingsFit}
 use Rattle.settings_laws.specs.Headers.{EndsByEdition, PlaceBelowEnd, FitsWithin, FitsAlways, FitsNever, SmhrAtIndexes, SmhrLoaded}
 use Rattle.settings_laws.proofs.Lock.{locked_as_listed}
@@ -28,11 +29,11 @@ pub record Fits (s : Settings) : Type 0 where
 
 pub fits_has : (s : Settings) → header_fits s ≡ true → Fits s
 unfolding header_fits
-fits_has s e = let p = (and-eq-true_iff _ _).0 e in record { low = leb-true _ _ p.0; high = leb-true _ _ p.1 }
+fits_has s e = record { low = grind (arith, nat_tests); high = grind (arith, nat_tests) }
 
 fits_is : (s : Settings) → Fits s → header_fits s ≡ true
 unfolding header_fits
-fits_is s f = rw (le-leb _ _ f.low, le-leb _ _ f.high)
+fits_is s f = grind (arith, nat_tests)
 
 pub place_below_end : PlaceBelowEnd
 unfolding header_place
@@ -66,24 +67,15 @@ fits_always s e u =
 
 pub fits_never : FitsNever
 unfolding header_fits header_end
-fits_never s e l = rw (e, lt-leb ((region_in s).base + header_length) (smhr s) (omega arith))
+fits_never s e l = grind (arith, nat_tests)
 
 pub smhr_at_indexes : SmhrAtIndexes
 unfolding byte_of number_by
 smhr_at_indexes s = omega arith
 
--- a number of its four bytes: p, q and r are what is left of it
-bytes_whole : (v p q r v₀ p₀ q₀ r₀ : ℕ) → v ≡ p * 256 + v₀ → p ≡ q * 256 + p₀ → q ≡ r * 256 + q₀ → r₀ ≡ r
-    → v₀ + p₀ * 256 + q₀ * 65536 + r₀ * 16777216 ≡ v
-bytes_whole v p q r v₀ p₀ q₀ r₀ a b c d = omega arith
-
 pub smhr_loaded_lem : SmhrLoaded
 unfolding with_smhr
-smhr_loaded_lem s v h =
-    let e : v / 65536 ≡ v / 256 / 256 = omega arith in
-    let f : v / 16777216 ≡ v / 256 / 256 / 256 = omega arith in
-    rw (e, f)
-    (bytes_whole v (v / 256) (v / 256 / 256) (v / 256 / 256 / 256) _ _ _ _ (omega arith) (omega arith) (omega arith) (omega arith))
+smhr_loaded_lem s v h = from_le_bytes-to_le_bytes_4 v h
 
 -- ---- what the locked bits decide
 
@@ -115,7 +107,4 @@ pub record Enabled (s : Settings) : Type 0 where
 
 pub enabled_has : (s : Settings) → enabled s ≡ true → Enabled s
 unfolding enabled
-enabled_has s e =
-    let p = (and-eq-true_iff _ _).0 e in
-    let q = (and-eq-true_iff _ _).0 p.0 in
-    record { on = ((and-eq-true_iff _ _).0 q.0).0; usable = q.1; fits = p.1 }
+enabled_has s e = record { on = grind (arith, nat_tests); usable = grind (arith, nat_tests); fits = grind (arith, nat_tests) }

@@ -1,14 +1,13 @@
 -- The stored bytes by the numbers of their indexes. Assumes nothing.
-use mathlib.Core.Path.{◌≡◌, refl, ◌∙◌}
+use mathlib.Core.Path.{◌≡◌, refl}
 use mathlib.Core.Bool.{Bool, true, false, cond}
-use Prim.Native.Nat.{ℕ, ◌+◌, ◌*◌, ◌%◌}
+use Prim.Native.Nat.{ℕ, ◌+◌, ◌%◌}
 use native.Mathlib.Omega.{arith}
 use lib.Dec.{eqb}
-use borrow.Author.Tests.{eqb-true, ne_eqb}
-use Rattle.fields.specs.Fields.{bit}
-use Rattle.fields.proofs.Bits.{bit_of}
+use borrow.Author.Tests.{eqb-true}
+use Rattle.std.proofs.lemmas.Bool.Decides.{nat_tests}
 use Rattle.settings.specs.declared.Settings.{Settings}
-use Rattle.settings.specs.Settings.{smi_lock, byte_of, with_byte, with_smhr, later_bits, locked_bits, sticky_bits, kept_bits}
+use Rattle.settings.specs.Settings.{byte_of, with_byte, with_smhr, later_bits, locked_bits, sticky_bits, kept_bits}
 use Rattle.settings_laws.specs.Stored.{StoredAt, ZeroElsewhere, ReadBack, SmhrStored, MasksListed}
 use Rattle.settings_laws.proofs.Lock.{byte_other}
 
@@ -25,19 +24,7 @@ Unnamed i =
 
 zero_at : (s : Settings) (i : ℕ) → Unnamed i → byte_of s i ≡ 0
 unfolding byte_of
-zero_at s i (a, b, c, d, e, f, g, h, k, l) =
-    rw (
-      ne_eqb i 193 a,
-      ne_eqb i 195 b,
-      ne_eqb i 205 c,
-      ne_eqb i 206 d,
-      ne_eqb i 207 e,
-      ne_eqb i 234 f,
-      ne_eqb i 176 g,
-      ne_eqb i 177 h,
-      ne_eqb i 178 k,
-      ne_eqb i 179 l,
-    )
+zero_at s i h = grind (arith, nat_tests)
 
 pub zero_elsewhere : ZeroElsewhere
 zero_elsewhere s k =
@@ -64,8 +51,4 @@ smhr_stored_lem s v = (refl, refl)
 
 pub masks_listed : MasksListed
 unfolding locked_bits later_bits sticky_bits kept_bits
-masks_listed = (refl, refl, refl, λ s i inside. go (smi_lock s) _ ∙ rw (bit_of (s.ccr3 % 2) (omega arith)))
-  where
-    go : (b : Bool) (x : ℕ) → cond b x 0 ≡ bit b * x
-    go true x = omega arith
-    go false x = omega arith
+masks_listed = (refl, refl, refl, λ s i inside. grind (arith, nat_tests))
