@@ -1,9 +1,9 @@
 -- Words stored one after the other. Assumes nothing.
 use mathlib.Core.Path.{◌≡◌, sym, ap, ◌∙◌}
 use mathlib.Core.List.{List, flat_map}
-use Prim.Native.Nat.{ℕ, suc, ◌+◌, ◌*◌, ◌≤◌, ◌<◌}
+use Prim.Native.Nat.{ℕ, suc, ◌+◌, ◌*◌, ◌<◌}
 use native.Mathlib.Omega.{arith}
-use lib.ListN.{length, get_or, drop, drop_of_length-le}
+use lib.ListN.{length, get_or, drop}
 use lib.Seq.{sets, drop-cons}
 use Rattle.fields.specs.Fields.{bytes_of}
 use Rattle.header.specs.Header.{words_bytes}
@@ -16,10 +16,3 @@ turn l l' o ws at i h e f =
     let g : at + 4 * (i + 1) ≡ suc (suc (suc (suc (at + 4 * i)))) = omega arith in
     let k : i + 1 ≡ suc i = omega arith in
     rw (g, k, e) (sym (ap (λ (x : List ℕ). sets l (at + 4 * i) (words_bytes x)) (drop-cons ws i 0 h)) ∙ f)
-
-pub none_left : (l ws : List ℕ) (at i : ℕ) → length ws ≤ i → sets l (at + 4 * i) (words_bytes (drop i ws)) ≡ l
-unfolding flat_map
-none_left l ws at i h = ap (λ (x : List ℕ). sets l (at + 4 * i) (words_bytes x)) (drop_of_length-le ws h)
-
-pub all_left : (l ws : List ℕ) (at : ℕ) → sets l (at + 4 * 0) (words_bytes (drop 0 ws)) ≡ sets l at (words_bytes ws)
-all_left l ws at = let e : at + 4 * 0 ≡ at = omega arith in rw e

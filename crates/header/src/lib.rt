@@ -1,6 +1,6 @@
 #![tactic(auto)]
 
-ghost use Rattle.std.specs.Prelude.{◌≡◌, true, false, map, ◌+◌, ◌*◌, ◌<◌, ◌≤◌, length};
+ghost use Rattle.std.specs.Prelude.{◌≡◌, true, false, map, ◌<◌, ◌≤◌};
 ghost use Rattle.std.proofs.lemmas.List.Edits.{sets};
 ghost use Rattle.header.specs.Header.{level_number, level_of, size_bits, port_size, cut, trap, trap_of, boundary_saved, smint_saved, contents, upward, words_bytes, headed, resumed, nested_in};
 ghost use Rattle.header.specs.ReadBack.{TableFills, SavedFits, WordsReadBack, RegistersReadBack, NestedReadBack};
@@ -10,12 +10,33 @@ use memory::Segment;
 use steps::{Interruption, Transfer};
 
 // The privilege level.
-#[derive(Clone, Copy)]
+#[derive(Clone, Copy, PartialEq, Eq)]
 pub enum Level {
     Zero,
     One,
     Two,
     Three,
+}
+
+impl From<u8> for Level {
+    ghost from_gives = { λ n level. level ≡ level_of n };
+
+    fn from(n: u8) -> Level {
+        match n {
+            0 => Level::Zero,
+            1 => Level::One,
+            2 => Level::Two,
+            _ => Level::Three,
+        }
+    }
+}
+
+impl From<Level> for u32 {
+    ghost from_gives = { λ level n. (n ≡ level_number level) × (n < 4) };
+
+    fn from(level: Level) -> u32 {
+        level as u32
+    }
 }
 
 // The registers that entry saves and RSM loads.
@@ -30,7 +51,7 @@ pub struct Registers {
     pub writable: bool,
 }
 
-// What a header records of an interruption.
+// What a header records of an interruption: each field has its place in the header's table, so what there is none of is 0.
 #[derive(Clone, Copy)]
 pub struct Trap {
     pub output: bool,
@@ -52,30 +73,8 @@ pub struct Saved {
     pub nested: bool,
 }
 
-pub fn level_number(level: Level) -> u32
-    ensures value { result ≡ level_number level }
-    ensures bounded { result < 4 }
-{
-    match level {
-        Level::Zero => 0,
-        Level::One => 1,
-        Level::Two => 2,
-        Level::Three => 3,
-    }
-}
-
-pub fn level_of(n: u8) -> Level
-    ensures { result ≡ level_of n }
-{
-    match n {
-        0 => Level::Zero,
-        1 => Level::One,
-        2 => Level::Two,
-        _ => Level::Three,
-    }
-}
-
 // An output's size as a header has it.
+#[tactic(auto, unfolding(crate::specs::Header::size_bits))]
 fn size_bits(size: u8) -> u32
     ensures { (result ≡ size_bits size) × (result ≤ 15) }
 {
@@ -90,15 +89,15 @@ fn size_bits(size: u8) -> u32
 fn port_size(t: Transfer) -> u32
     ensures { result ≡ port_size t }
 {
-    t.port as u32 + 65536 * size_bits(t.size)
+    u32::from(t.port) + 65536 * size_bits(t.size)
 }
 
 // A transfer's value, cut to its size.
+#[tactic(auto, unfolding(crate::specs::Header::cut))]
 fn cut_value(t: Transfer) -> u32
     ensures { result ≡ cut t }
 {
-    let size = t.size;
-    match size {
+    match t.size {
         1 => t.value % 256,
         2 => t.value % 65536,
         _ => t.value,
@@ -110,10 +109,10 @@ fn output_trap(t: Transfer, rep: bool, index: u32) -> Trap
 {
     Trap {
         output: true,
-        rep: rep,
+        rep,
         transfer: port_size(t),
         value: cut_value(t),
-        index: index,
+        index,
     }
 }
 
@@ -122,10 +121,10 @@ fn input_trap(rep: bool, index: u32) -> Trap
 {
     Trap {
         output: false,
-        rep: rep,
+        rep,
         transfer: 0,
         value: 0,
-        index: index,
+        index,
     }
 }
 
@@ -134,8 +133,7 @@ fn trap_of(i: Interruption) -> Trap
     ensures { result ≡ trap_of i }
 {
     match i {
-        Interruption::None => input_trap(false, 0),
-        Interruption::Input => input_trap(false, 0),
+        Interruption::None | Interruption::Input => input_trap(false, 0),
         Interruption::Output(t) => output_trap(t, false, 0),
         Interruption::StringInput(x) => input_trap(false, x),
         Interruption::StringOutput(t, x) => output_trap(t, false, x),
@@ -155,14 +153,15 @@ pub fn saved_at_boundary(
     ensures { result ≡ boundary_saved registers halted inside current interruption }
 {
     let trap = trap_of(interruption);
-    let current = fields::either(halted, registers.eip, current);
+    let current = if halted { registers.eip } else { current };
+    let next = if trap.rep { current } else { registers.eip };
     Saved {
-        registers: registers,
-        current: current,
-        next: fields::either(trap.rep, current, registers.eip),
-        trap: trap,
+        registers,
+        current,
+        next,
+        trap,
         smint: false,
-        halted: halted,
+        halted,
         nested: inside,
     }
 }
@@ -171,14 +170,13 @@ pub fn saved_at_boundary(
 pub fn saved_by_smint(registers: Registers, halted: bool, next: u32) -> Saved
     ensures { result ≡ smint_saved registers halted next }
 {
-    let trap = trap_of(Interruption::None);
     Saved {
-        registers: registers,
+        registers,
         current: registers.eip,
-        next: next,
-        trap: trap,
+        next,
+        trap: trap_of(Interruption::None),
         smint: true,
-        halted: halted,
+        halted,
         nested: false,
     }
 }
@@ -187,78 +185,68 @@ pub fn saved_by_smint(registers: Registers, halted: bool, next: u32) -> Saved
 fn words_of(s: Saved) -> [u32; 12]
     ensures { result ≡ map (contents s) upward }
 {
-    let r = s.registers;
-    let t = s.trap;
-    let cs = r.cs;
-    let l = r.level;
-    let level = level_number(l);
-    let flags = fields::flag(r.writable)
-        + 2 * fields::flag(t.output)
-        + 4 * fields::flag(t.rep)
-        + 8 * fields::flag(s.smint)
-        + 16 * fields::flag(s.halted)
-        + 32768 * fields::flag(s.nested);
+    let registers = s.registers;
+    let trap = s.trap;
+    let flags = u32::from(registers.writable)
+        + 2 * u32::from(trap.output)
+        + 4 * u32::from(trap.rep)
+        + 8 * u32::from(s.smint)
+        + 16 * u32::from(s.halted)
+        + 32768 * u32::from(s.nested);
+    let cs = registers.cs;
     [
-        t.index,
-        t.value,
-        t.transfer,
+        trap.index,
+        trap.value,
+        trap.transfer,
         flags,
         (cs.descriptor % 4294967296) as u32,
         (cs.descriptor / 4294967296) as u32,
-        cs.selector as u32 + 2097152 * level,
+        u32::from(cs.selector) + 2097152 * u32::from(registers.level),
         s.next,
         s.current,
-        r.cr0,
-        r.eflags,
-        r.dr7,
+        registers.cr0,
+        registers.eflags,
+        registers.dr7,
     ]
 }
 
 // Stores words, one after the other.
-fn put_words(area: &mut [u8], at: usize, words: &[u32])
-    requires { (at < 4294967296) × (length words.now ≤ 12) }
+fn put_words(area: &mut [u8], at: u32, words: &[u32; 12])
     ensures { area.new ≡ sets area.old at (words_bytes words.now) }
 {
-    let mut i = 0;
-    while i < words.len() {
-        fields::store_at(area, at + 4 * i, 4, words[i] as u64);
-        i = i + 1;
+    for (i, word) in words.iter().enumerate() {
+        fields::store_at(area, at as usize + 4 * i, 4, *word as u64);
     }
 }
 
 // Writes the header's 48 bytes from a place of management memory on; past its end, nothing.
+#[tactic(auto, unfolding(crate::specs::Header::headed, crate::specs::Header::header_bytes))]
 pub fn write(management: &mut [u8], at: u32, s: Saved)
     ensures { management.new ≡ headed management.old at s }
 {
-    let words = words_of(s);
-    put_words(management, at as usize, &words);
+    put_words(management, at, &words_of(s));
 }
 
 // The registers that RSM loads from the header at a place of management memory.
+#[tactic(auto, unfolding(crate::specs::Header::resumed))]
 pub fn read(management: &[u8], at: u32) -> Registers
     ensures { result ≡ resumed management.now at }
 {
     let at = at as usize;
-    let flags = fields::word(management, at + 12);
-    let low = fields::word(management, at + 16);
-    let high = fields::word(management, at + 20);
-    let selector = fields::word(management, at + 24);
-    let eip = fields::word(management, at + 28);
-    let cr0 = fields::word(management, at + 36);
-    let eflags = fields::word(management, at + 40);
-    let dr7 = fields::word(management, at + 44);
-    let cs = Segment {
-        selector: (selector % 65536) as u16,
-        descriptor: low as u64 + 4294967296 * (high as u64),
-    };
-    let level = level_of((selector / 2097152 % 4) as u8);
+    let flags: u32 = fields::number(management, at + 12);
+    let low: u32 = fields::number(management, at + 16);
+    let high: u32 = fields::number(management, at + 20);
+    let selector: u32 = fields::number(management, at + 24);
     Registers {
-        eip: eip,
-        eflags: eflags,
-        cr0: cr0,
-        dr7: dr7,
-        cs: cs,
-        level: level,
+        eip: fields::number(management, at + 28),
+        eflags: fields::number(management, at + 40),
+        cr0: fields::number(management, at + 36),
+        dr7: fields::number(management, at + 44),
+        cs: Segment {
+            selector: (selector % 65536) as u16,
+            descriptor: u64::from(low) + 4294967296 * u64::from(high),
+        },
+        level: Level::from((selector / 2097152 % 4) as u8),
         writable: flags % 2 == 1,
     }
 }
@@ -267,32 +255,31 @@ pub fn read(management: &[u8], at: u32) -> Registers
 pub fn is_nested(management: &[u8], at: u32) -> bool
     ensures { result ≡ nested_in management.now at }
 {
-    fields::word(management, at as usize + 12) / 32768 % 2 == 1
+    fields::number::<u32>(management, at as usize + 12) / 32768 % 2 == 1
 }
 
 // CS after entry to a region at a base.
 fn entry_cs(base: u32) -> Segment
     ensures { result ≡ entry_cs base }
 {
+    let [low, second, third, high] = base.to_le_bytes();
     Segment {
         selector: (256 * (base / 4096 % 256)) as u16,
-        descriptor: 0x008F93000000FFFF
-            + 65536 * (base as u64 % 16777216)
-            + 72057594037927936 * (base as u64 / 16777216),
+        descriptor: u64::from_le_bytes([0xFF, 0xFF, low, second, third, 0x93, 0x8F, high]),
     }
 }
 
 // The registers after entry to a region at a base.
+#[tactic(auto, unfolding(crate::specs::Entry::entry_registers, crate::specs::Entry::entry_cr0))]
 pub fn entry_registers(r: Registers, base: u32) -> Registers
     ensures { result ≡ entry_registers r base }
 {
-    let cs = entry_cs(base);
     Registers {
         eip: 0,
         eflags: 2,
         cr0: r.cr0 & 0x7FFFFFF2,
         dr7: 0x400,
-        cs: cs,
+        cs: entry_cs(base),
         level: Level::Zero,
         writable: true,
     }

@@ -1,12 +1,13 @@
 -- Laws of the memories, over any window, address and count. A law of one of the two memories is over which it is: t says that it is
 -- management memory. Assumes nothing.
 use mathlib.Core.Path.{◌≡◌, refl, sym, ap, ◌∙◌}
-use mathlib.Core.Bool.{Bool, true, false, not, ◌&&◌}
+use mathlib.Core.Bool.{Bool, true, false, cond, not, ◌&&◌}
 use mathlib.Core.List.{List}
 use Prim.Native.Nat.{ℕ, zero, suc, ◌+◌, ◌/◌, ◌%◌, ◌-◌, ◌≤◌, ◌<◌, min}
 use native.Mathlib.Omega.{arith}
-use lib.Seq.{set_out, sets}
-use lib.ListN.{get_or-eq_default, length, get_or, set}
+use Rattle.std.specs.List.{list_all, range_with_len}
+use lib.Seq.{sets}
+use lib.ListN.{length, get_or, set}
 use borrow.Author.Tests.{le-ltb, lt-leb}
 use Rattle.region.specs.Region.{within}
 use Rattle.region.specs.declared.Region.{Region}
@@ -14,9 +15,8 @@ use Rattle.region.proofs.Laws.{within_has}
 use Rattle.fields.specs.Fields.{field_at, bytes_of}
 use Rattle.fields.proofs.Laws.{number_same}
 use Rattle.steps.specs.declared.Answer.TheVariants.{Done, Value}
-use Rattle.memory.specs.declared.Segment.{Segment}
 use Rattle.memory.specs.Route.{Each, Together}
-use Rattle.memory.specs.Memory.{Memories, memories, cell_of, byte_at, store_byte, absent, all_there, load, store_bytes, store, store_segment, reaches, reads, writes}
+use Rattle.memory.specs.Memory.{Memories, memories, Cell, cell_of, byte_at, store_byte, absent, all_there, load, store_bytes, store, reaches, reads, writes}
 
 -- the memories of which l is the one, and o the other
 abbrev pub memories_by : Bool → List ℕ → List ℕ → Memories
@@ -28,10 +28,23 @@ abbrev pub place : Bool → Region → ℕ → ℕ
 place true w a = a - w.base
 place false w a = a
 
-up : (n : ℕ) → 0 < n → n ≡ suc (n - 1)
-up n h = omega arith
+-- the cell of a number in it
+abbrev pub cell : Bool → ℕ → Cell
+cell true k = Cell.InManagement k
+cell false k = Cell.InMain k
 
 -- ---- one byte
+
+-- what a cell says of its address
+pub cell_is : (w : Region) (a : ℕ) (t : Bool) (k : ℕ) → cell t k ≡ cell_of w a → (within w a ≡ t) × (k ≡ place t w a)
+unfolding cell_of
+cell_is w a t k = go (within w a) t
+  where
+    go : (u t : Bool) → cell t k ≡ cond u (Cell.InManagement (a - w.base)) (Cell.InMain a) → (u ≡ t) × (k ≡ place t w a)
+    go true true e = (refl, cc)
+    go true false e = absurd (cc)
+    go false true e = absurd (cc)
+    go false false e = (refl, cc)
 
 module _ (w : Region) (a : ℕ) where
   pub byte_of : (t : Bool) (l o : List ℕ) → within w a ≡ t → byte_at w (memories_by t l o) a ≡ get_or l (place t w a) 0
@@ -45,14 +58,6 @@ module _ (w : Region) (a : ℕ) where
   store_of true l o b e = rw e
   store_of false l o b e = rw e
 
-  -- past its end
-  module _ (t : Bool) (l o : List ℕ) (e : within w a ≡ t) (h : length l ≤ place t w a) where
-    pub byte_beyond : byte_at w (memories_by t l o) a ≡ 0
-    byte_beyond = byte_of t l o e ∙ get_or-eq_default l 0 h
-
-    pub store_beyond : (b : ℕ) → store_byte w (memories_by t l o) a b ≡ memories_by t l o
-    store_beyond b = store_of t l o b e ∙ ap (λ (k : List ℕ). memories_by t k o) (set_out l (place t w a) b h)
-
   place_on : (t : Bool) (i : ℕ) → within w a ≡ t → place t w (a + i) ≡ place t w a + i
   place_on true i e = omega (arith, (within_has w a e).low)
   place_on false i e = refl
@@ -64,40 +69,23 @@ module _ (w : Region) (a : ℕ) where
 
 -- ---- whether all bytes are there
 
-module _ (w : Region) (end a n : ℕ) where
-  there_step : 0 < n → all_there w end a n ≡ not (absent w end a) && all_there w end (a + 1) (n - 1)
-  unfolding all_there
-  there_step h = ap (all_there w end a) (up n h)
-
-  -- a loop's turn: an absent byte settles it, and at any other it goes by the rest
-  pub stops : 0 < n → absent w end a ≡ true → all_there w end a n ≡ false
-  stops h e = there_step h ∙ ap (λ (b : Bool). not b && all_there w end (a + 1) (n - 1)) e
-
-  pub goes_on : 0 < n → absent w end a ≡ false → all_there w end a n ≡ all_there w end (a + 1) (n - 1)
-  goes_on h e = there_step h ∙ ap (λ (b : Bool). not b && all_there w end (a + 1) (n - 1)) e
-
-  pub none_left : n ≤ 0 → all_there w end a n ≡ true
-  unfolding all_there
-  none_left h = let e : n ≡ 0 = omega arith in rw e
+pub all_listed : (w : Region) (end a n : ℕ) → list_all (λ b. not (absent w end b)) (range_with_len a n) ≡ all_there w end a n
+unfolding all_there
+all_listed w end a zero = refl
+all_listed w end a (suc n) = ap (λ t. not (absent w end a) && t) (all_listed w end (a + 1) n)
 
 -- ---- storing
 
 module _ (w : Region) (x : Memories) (a : ℕ) where
   -- a loop's turn: what is left to store from the next byte on
-  pub store_turn : (y o : Memories) (n v : ℕ) → 0 < n → y ≡ store_byte w x a (v % 256) → store w x a n v ≡ o
-      → store w y (a + 1) (n - 1) (v / 256) ≡ o
+  pub store_turn : (y o : Memories) (n m v : ℕ) → n ≡ suc m → y ≡ store_byte w x a (v % 256) → store w x a n v ≡ o
+      → store w y (a + 1) m (v / 256) ≡ o
   unfolding store_bytes bytes_of
-  store_turn y o n v h e f =
-      ap (λ (z : Memories). store w z (a + 1) (n - 1) (v / 256)) e ∙ sym (ap (λ (k : ℕ). store w x a k v) (up n h)) ∙ f
+  store_turn y o n m v h e f = ap (λ (z : Memories). store w z (a + 1) m (v / 256)) e ∙ sym (ap (λ (k : ℕ). store w x a k v) h) ∙ f
 
   pub store_none : (n v : ℕ) → n ≤ 0 → store w x a n v ≡ x
   unfolding store_bytes bytes_of
   store_none n v h = let e : n ≡ 0 = omega arith in rw e
-
-  pub segment_stored : (y z : Memories) (s : Segment) → y ≡ store w x a 8 s.descriptor → z ≡ store w y (a + 8) 2 s.selector
-      → z ≡ store_segment w x a s
-  unfolding store_segment
-  segment_stored y z s e f = rw (← e) f
 
 -- ---- all bytes in one memory
 
@@ -138,16 +126,16 @@ module _ (w : Region) (t : Bool) where
 
 module _ (w : Region) (a : ℕ) (t : Bool) (l o : List ℕ) where
   -- a read of n bytes, where the code takes k
-  pub read_whole : (n k v : ℕ) → k ≡ min n 4 → Together w (length (memories_by t l o).main) a k t
-      → v ≡ field_at l (place t w a) (min k 8) → Value v ≡ reads w (memories_by t l o) a (min n 4)
+  pub read_whole : (n k j v : ℕ) → k ≡ min n 4 → (cell t j ≡ cell_of w a) × Together w (length (memories_by t l o).main) a k t
+      → v ≡ field_at l j (min k 8) → Value v ≡ reads w (memories_by t l o) a (min n 4)
   unfolding reads
-  read_whole n k v e r f =
+  read_whole n k j v e (c, r) f =
       let m : min k 8 ≡ k = omega arith in
       rw (sym e, there_all w t _ a k r.each r.inside r.below)
-      (ap Value (f ∙ ap (field_at l (place t w a)) m ∙ sym (load_of w t l o a k r.each)))
+      (ap Value (rw (m, (cell_is w a t j c).1) at f ∙ sym (load_of w t l o a k r.each)))
 
-  pub written_whole : (p : List ℕ) (n v : ℕ) → Together w (length (memories_by t l o).main) a n t
-      → p ≡ sets l (place t w a) (bytes_of n v) → reaches Done (memories_by t p o) ≡ writes w (memories_by t l o) a n v
+  pub written_whole : (p : List ℕ) (n j v : ℕ) → (cell t j ≡ cell_of w a) × Together w (length (memories_by t l o).main) a n t
+      → p ≡ sets l j (bytes_of n v) → reaches Done (memories_by t p o) ≡ writes w (memories_by t l o) a n v
   unfolding writes
-  written_whole p n v r e =
-      rw (there_all w t _ a n r.each r.inside r.below, e) (ap (reaches Done) (sym (store_all_of w t l o a n v r.each)))
+  written_whole p n j v (c, r) e =
+      rw (there_all w t _ a n r.each r.inside r.below, e, (cell_is w a t j c).1) (ap (reaches Done) (sym (store_all_of w t l o a n v r.each)))

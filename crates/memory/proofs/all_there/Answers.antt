@@ -1,21 +1,13 @@
-use Rattle.memory.proofs.Laws.{stops, goes_on, none_left}
-use native.Mathlib.Omega.{arith}
-use mathlib.Core.Path.{refl, sym, ◌∙◌}
+use Rattle.std.proofs.Common.{rules, arith, refl, not, ◌∙◌, ◌+◌}
+use Rattle.std.proofs.lemmas.Iterator.{YieldsList-from_range}
+use Rattle.std.proofs.lemmas.Iterator.Search.{all_from_yields_List}
+use Rattle.memory.specs.Memory.{absent}
+use Rattle.memory.proofs.Laws.{all_listed}
 use Rattle.memory.proofs.all_there.Goals as goal
 
-pub loop-left-init : goal.loop-left-init
-loop-left-init c = (omega arith, refl)
-
-pub returns-then-is_absent : goal.returns-then-is_absent
-returns-then-is_absent c = sym (stops _ _ _ _ c.loop-left-test.true (sym c.is_absent.ensures ∙ c.if-is_absent.true))
-    ∙ c.loop-left.invariant.1
-
-pub loop-left-preserved : goal.loop-left-preserved
-loop-left-preserved c = (
-  omega arith,
-  sym (goes_on _ _ _ _ c.loop-left-test.true (sym c.is_absent.ensures ∙ c.if-is_absent.false))
-      ∙ c.loop-left.invariant.1,
-)
-
 pub returns : goal.returns
-returns c = sym (none_left _ _ _ _ c.loop-left-test.false) ∙ c.loop-left.invariant.1
+returns c =
+    let a = c.args in
+    all_from_yields_List (λ b. not (absent a.window a.end b)) _ _ _ c.all.ensures.ran
+    (YieldsList-from_range a.address (a.address + a.count) a.count refl (omega arith)) (λ x b q k. search rules)
+    ∙ all_listed a.window a.end a.address a.count

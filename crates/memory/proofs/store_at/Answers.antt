@@ -1,21 +1,10 @@
 use Rattle.memory.proofs.Laws.{store_turn, store_none}
-use Rattle.memory.specs.Memory.{memories}
 use native.Mathlib.Omega.{arith}
-use mathlib.Core.Path.{refl, sym, ◌∙◌}
+use mathlib.Core.Path.{sym, ◌∙◌}
 use Rattle.memory.proofs.store_at.Goals as goal
 
-pub loop-left-init : goal.loop-left-init
-loop-left-init c = (omega arith, refl, refl, refl)
-
-pub loop-left-preserved : goal.loop-left-preserved
-loop-left-preserved c =
-    let l = c.loop-left in
-    let s = c.store_byte in (
-      omega arith,
-      omega arith,
-      omega arith,
-      store_turn _ (memories l.main l.management) l.at _ _ l.left l.rest (omega arith) s.ensures l.invariant.3,
-    )
+pub loop-at-preserved : goal.loop-at-preserved
+loop-at-preserved c = store_turn _ _ _ _ _ _ _ _ (omega arith) c.store_byte.ensures c.loop-at.invariant
 
 pub returns : goal.returns
-returns c = sym (store_none _ _ _ _ _ c.loop-left-test.false) ∙ c.loop-left.invariant.3
+returns c = sym (store_none _ _ _ _ _ (omega arith)) ∙ c.loop-at.invariant

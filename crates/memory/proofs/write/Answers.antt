@@ -1,15 +1,11 @@
 use Rattle.memory.proofs.Laws.{written_whole}
 use mathlib.Core.Bool.{true, false}
-use mathlib.Core.Path.{refl}
 use Rattle.memory.proofs.write.Goals as goal
 
-pub overflow_sub-k : goal.overflow_sub-k
-overflow_sub-k c = let r = rw c.in-Management.is at c.route_of.ensures in r.from refl
+pub returns-in-Some-Main : goal.returns-in-Some-Main
+returns-in-Some-Main c =
+    written_whole _ _ false _ _ _ _ _ _ (rw (c.in-Some-Main.field-0-is, ← c.in-Some-Main.k-is) at c.in-Some-Main.ensures) c.store_at.ensures
 
-pub returns-in-Main : goal.returns-in-Main
-returns-in-Main c =
-    written_whole _ _ false _ _ _ _ _ (rw c.in-Main.is at c.route_of.ensures) c.store_at.ensures
-
-pub returns-in-Management : goal.returns-in-Management
-returns-in-Management c =
-    written_whole _ _ true _ _ _ _ _ (rw c.in-Management.is at c.route_of.ensures) c.store_at-in-Management.ensures
+pub returns-in-Some-Management : goal.returns-in-Some-Management
+returns-in-Some-Management c =
+    written_whole _ _ true _ _ _ _ _ _ (rw (c.in-Some-Management.field-0-is, ← c.in-Some-Management.k-is) at c.in-Some-Management.ensures) c.store_at-in-Some-Management.ensures
