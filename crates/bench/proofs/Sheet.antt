@@ -9,6 +9,7 @@ use native.Mathlib.Nat.{le_of_suc-le-suc, not-suc-le-zero}
 use lib.Dec.{eqb}
 use lib.ListN.{length, replicate}
 use borrow.Author.Tests.{eqb-true, not-true, eq-eqb, ne_eqb, le-leb}
+use Rattle.std.proofs.Common.{Option}
 use Rattle.region.specs.declared.Region.{Region}
 use Rattle.region.specs.Region.{region_of, size_of, usable}
 use Rattle.fields.specs.Fields.{number_by, field_at, number, bytes_of}
@@ -18,7 +19,6 @@ use Rattle.steps.specs.declared.Interruption.{Interruption}
 use Rattle.steps.specs.declared.Interruption.TheVariants.{None}
 use Rattle.steps.specs.declared.Step.TheVariants.{PortWrite, Boundary}
 use Rattle.steps.specs.Steps.{is_width, malformed}
-use Rattle.refusals.specs.declared.Verdict.TheVariants.{Allowed}
 use Rattle.refusals.specs.Refusals.{largest_main, management_size, wrong_sizes, malformed_on, program_while_halted, first_refusal}
 use Rattle.refusals.proofs.Laws.{taken_allowed}
 use Rattle.settings.specs.declared.Edition.TheVariants.{Cx486}
@@ -202,7 +202,7 @@ armed_at ccr1 = record {
 abbrev named : (base code : ℕ) → Region
 named base code = region_in (settings 2 base code)
 
-takes : (current : ℕ) (i : Interruption) → malformed (Boundary 1 current i) ≡ false → first_refusal false (filled 0) (Boundary 1 current i) ≡ Allowed
+takes : (current : ℕ) (i : Interruption) → malformed (Boundary 1 current i) ≡ false → first_refusal false (filled 0) (Boundary 1 current i) ≡ Option.None
 unfolding malformed_on program_while_halted
 takes current i formed = allowed (replicate 65536 0) (full 0) false (Boundary 1 current i) (rw formed) refl
 

@@ -1,6 +1,6 @@
 -- 01, "Bench sheet" and "Region": the P lines as one table, with the three rows under "Region" before them, and the fact about the rules that
 -- each row states.
-use Rattle.std.specs.Prelude.{ℕ, ◌+◌, ◌-◌, ◌/◌, ◌%◌, ◌<◌, ◌≤◌, ◌≡◌, Bool, true, false, List, [], ◌∷◌, length, get_or}
+use Rattle.std.specs.Prelude.{ℕ, ◌+◌, ◌-◌, ◌/◌, ◌%◌, ◌<◌, ◌≤◌, ◌≡◌, Bool, true, false, List, [], ◌∷◌, length, get_or, Option}
 use Rattle.region.specs.declared.Region.{Region}
 use Rattle.region.specs.Region.{region_of, size_of, usable}
 use Rattle.fields.specs.Fields.{field_at, number}
@@ -8,7 +8,6 @@ use Rattle.memory.specs.Memory.{Memories}
 use Rattle.steps.specs.declared.Interruption.{Interruption}
 use Rattle.steps.specs.declared.Interruption.TheVariants.{None, Output}
 use Rattle.steps.specs.declared.Step.TheVariants.{PortWrite, Boundary}
-use Rattle.refusals.specs.declared.Verdict.TheVariants.{Allowed}
 use Rattle.refusals.specs.Refusals.{wrong_sizes, first_refusal}
 use Rattle.settings.specs.declared.Edition.TheVariants.{Cx486}
 use Rattle.settings.specs.Settings.{use_smi, smac, smi_lock, region_in}
@@ -68,7 +67,7 @@ pub record Before (current : ℕ) (i : Interruption) : Type 0 where
   pub machine : Machine
   pub memory : Memories
   pub edition : edition_of machine ≡ Cx486
-  pub allowed : first_refusal machine.halted memory (Boundary 1 current i) ≡ Allowed
+  pub allowed : first_refusal machine.halted memory (Boundary 1 current i) ≡ Option.None
   pub outside : machine.inside ≡ false
   pub on : use_smi (settings_of machine) ≡ true
   pub closed : smac (settings_of machine) ≡ false
@@ -95,7 +94,7 @@ ArmedAsked =
 abbrev pub BeforeAsked : Type 0
 BeforeAsked =
     (m : Machine) (x : Memories) (current : ℕ) (i : Interruption)
-    → edition_of m ≡ Cx486 → first_refusal m.halted x (Boundary 1 current i) ≡ Allowed → m.inside ≡ false
+    → edition_of m ≡ Cx486 → first_refusal m.halted x (Boundary 1 current i) ≡ Option.None → m.inside ≡ false
     → (settings_of m).ccr1 / 2 % 2 ≡ 1 → (settings_of m).ccr1 / 4 % 2 ≡ 0
     → OfBefore m x current i
 

@@ -4,15 +4,15 @@ use mathlib.Core.Bool.{Bool, true, false, ◌&&◌, and-false, or-false}
 use Prim.Native.Nat.{ℕ, ◌+◌}
 use lib.Dec.{eqb}
 use borrow.Author.Tests.{eqb-true, ne_eqb}
+use Rattle.std.proofs.Common.{Option, Some, None}
 use Rattle.region.specs.Region.{size_of}
 use Rattle.memory.specs.declared.Segment.{Segment}
 use Rattle.memory.specs.Memory.{Memories, there, reads, writes}
+use Rattle.steps.specs.declared.Answer.{Answer}
 use Rattle.steps.specs.declared.Step.{Step}
 use Rattle.steps.specs.declared.Step.TheVariants.{Reset, Registers, Read, Write, PortRead, PortWrite, Opcode, Boundary, MalformedBoundary, Halt, Wake}
 use Rattle.steps.specs.declared.Interruption.{Interruption}
 use Rattle.refusals.specs.Refusals.{first_refusal}
-use Rattle.refusals.specs.declared.Verdict.{Verdict}
-use Rattle.refusals.specs.declared.Verdict.TheVariants.{Refused, Allowed}
 use Rattle.settings.specs.declared.Edition.TheVariants.{Cx486, Mii}
 use Rattle.settings.specs.declared.Settings.{Settings}
 use Rattle.nesting.specs.Nesting.{smm_mode, enhanced, entered_settings, resumed_settings, nestable, takes, stays_inside}
@@ -217,9 +217,9 @@ module _ (m : Machine) (x : Memories) (later : edition_of m ≡ Mii) (zero : smm
     same_performed Halt h = refl
     same_performed Wake h = refl
 
-    same_decided : (s : Step) (v : Verdict) → common s ≡ true → Same (decided (as486 m) x s v) (decided m x s v)
-    same_decided s (Refused a) h = refl
-    same_decided s Allowed h = same_performed s h
+    same_decided : (s : Step) (v : Option Answer) → common s ≡ true → Same (decided (as486 m) x s v) (decided m x s v)
+    same_decided s (Some a) h = refl
+    same_decided s None h = same_performed s h
 
 pub same_without_news : SameWithoutNews
 unfolding stepped

@@ -3,6 +3,7 @@ use mathlib.Core.Path.{◌≡◌, refl}
 use mathlib.Core.Bool.{Bool, true, false, cond, not, ◌&&◌, ◌||◌, and-false, and-eq-true_iff}
 use Prim.Native.Nat.{ℕ}
 use lib.Dec.{eqb}
+use Rattle.std.proofs.Common.{Option}
 use Rattle.region.specs.Region.{usable}
 use Rattle.memory.specs.Memory.{Memories, Reached, all_there, there, reads, writes}
 use Rattle.steps.specs.declared.Answer.{Answer}
@@ -11,7 +12,6 @@ use Rattle.steps.specs.declared.Step.{Step}
 use Rattle.steps.specs.declared.Step.TheVariants.{Reset, Registers, Read, Write, PortRead, PortWrite, Opcode, Boundary, MalformedBoundary, Halt, Wake}
 use Rattle.steps.specs.declared.Interruption.{Interruption}
 use Rattle.steps.specs.Answers.{number_of, refusal}
-use Rattle.refusals.specs.declared.Verdict.{Verdict}
 use Rattle.refusals.specs.Refusals.{wrong_sizes, malformed_on, program_while_halted, first_refusal}
 use Rattle.refusals.proofs.Laws.{Taken}
 use Rattle.settings.specs.Settings.{use_smi, region_in, header_fits, enabled, opcodes_allowed, smac}
@@ -120,7 +120,7 @@ module _ (m : Machine) (x : Memories) where
   pub step_does : (s : Step) → Does m x s (stepped m x s) (called_for m x s)
   unfolding stepped called_for first_refusal
   step_does s =
-      let P : Verdict → ℕ → Type 0 = λ v n. Does m x s (decided m x s v) n in
+      let P : Option Answer → ℕ → Type 0 = λ v n. Does m x s (decided m x s v) n in
       both P (wrong_sizes x) (λ h. Does.refuses WrongSize refl)
       (λ h. both P (malformed_on m.halted s) (λ k. Does.refuses Malformed refl)
       (λ k. both P (program_while_halted m.halted s) (λ l. Does.refuses WhileHalted refl)

@@ -5,6 +5,7 @@ use mathlib.Core.List.{List, [], ◌∷◌}
 use Prim.Native.Nat.{ℕ, ◌<◌, ◌^◌}
 use native.Mathlib.Omega.{arith}
 use lib.ListN.{length, replicate, length-replicate}
+use Rattle.std.proofs.Common.{Option}
 use Rattle.region.specs.Region.{region_of, size_of, usable, within}
 use Rattle.fields.specs.Fields.{number_by}
 use Rattle.memory.specs.Memory.{Memories, memories, absent, all_there}
@@ -16,7 +17,6 @@ use Rattle.steps.specs.declared.Step.{Step}
 use Rattle.steps.specs.declared.Step.TheVariants.{Read, PortRead, Opcode, Boundary, MalformedBoundary, Halt}
 use Rattle.steps.specs.Widths.{TransferFits, InterruptionFits, StepFits}
 use Rattle.steps.specs.Steps.{is_width, kind_of}
-use Rattle.refusals.specs.declared.Verdict.TheVariants.{Allowed}
 use Rattle.refusals.specs.Refusals.{wrong_sizes, malformed_on, program_while_halted, first_refusal}
 use Rattle.refusals.proofs.Laws.{taken_allowed}
 use Rattle.settings.specs.declared.Edition.{Edition}
@@ -80,10 +80,10 @@ module _ (g : List ℕ) (long : length g ≡ 65536) where
   unfolding wrong_sizes
   whole = rw long
 
-  pub allowed : (halted : Bool) (s : Step) → malformed_on halted s ≡ false → program_while_halted halted s ≡ false → first_refusal halted x s ≡ Allowed
+  pub allowed : (halted : Bool) (s : Step) → malformed_on halted s ≡ false → program_while_halted halted s ≡ false → first_refusal halted x s ≡ Option.None
   allowed halted s formed awake = taken_allowed halted x s (record { sizes = whole; formed = formed; awake = awake })
 
-  pub boundary_allowed : (halted : Bool) (i : Interruption) → malformed_on halted (met i) ≡ false → first_refusal halted x (met i) ≡ Allowed
+  pub boundary_allowed : (halted : Bool) (i : Interruption) → malformed_on halted (met i) ≡ false → first_refusal halted x (met i) ≡ Option.None
   unfolding program_while_halted
   boundary_allowed halted i formed = allowed halted (met i) formed (and-false halted)
 
@@ -104,7 +104,7 @@ module _ (g : List ℕ) (long : length g ≡ 65536) where
     unfolding called_for malformed_on program_while_halted valid permitted opcodes_allowed window_of within usable region_of size_of absent all_there is_width operation_of grouped header_fits header_end
     later_called_for = (rw whole, rw whole, rw whole, rw whole)
 
-    smint_allowed : first_refusal false x (smint e) ≡ Allowed
+    smint_allowed : first_refusal false x (smint e) ≡ Option.None
     unfolding malformed_on program_while_halted
     smint_allowed = allowed false (smint e) refl refl
 
@@ -181,7 +181,7 @@ sample_fits e ccr1 ccr3 h k = record {
 }
 
 -- an entry that is due, and RSM after it
-pub entry_example : (m : Machine) (s : Step) → MachineFits m → StepFits s → first_refusal m.halted (filled 0) s ≡ Allowed → Entering m s
+pub entry_example : (m : Machine) (s : Step) → MachineFits m → StepFits s → first_refusal m.halted (filled 0) s ≡ Option.None → Entering m s
     → EntryExample m s
 entry_example m s f w may by =
     let e = enters_where_due m (filled 0) s may by in

@@ -6,6 +6,7 @@ use native.Mathlib.Omega.{arith}
 use lib.Dec.{eqb}
 use lib.Seq.{length-sets}
 use borrow.Author.Tests.{not-true, eq-eqb, ne_eqb}
+use Rattle.std.proofs.Common.{Option}
 use Rattle.memory.specs.Memory.{Memories, all_there}
 use Rattle.steps.specs.declared.Transfer.{Transfer}
 use Rattle.steps.specs.declared.Interruption.{Interruption}
@@ -14,7 +15,6 @@ use Rattle.steps.specs.declared.Step.{Step}
 use Rattle.steps.specs.declared.Step.TheVariants.{Opcode, Boundary}
 use Rattle.steps.specs.Answers.{number_of}
 use Rattle.steps.specs.Widths.{TransferFits, InterruptionFits, StepFits}
-use Rattle.refusals.specs.declared.Verdict.TheVariants.{Allowed}
 use Rattle.refusals.specs.Refusals.{wrong_sizes, malformed_on, program_while_halted, first_refusal}
 use Rattle.refusals.proofs.Laws.{taken_allowed, by_verdict}
 use Rattle.settings.specs.declared.Edition.{Edition}
@@ -43,15 +43,15 @@ use Rattle.isolation.proofs.Doing.{Able}
 use Rattle.isolation.proofs.Entering.{only_header, room, enters, resumes}
 
 -- a step that is allowed is performed
-pub performs : (m : Machine) (x : Memories) (s : Step) → first_refusal m.halted x s ≡ Allowed → stepped m x s ≡ performed m x s
+pub performs : (m : Machine) (x : Memories) (s : Step) → first_refusal m.halted x s ≡ Option.None → stepped m x s ≡ performed m x s
 unfolding stepped
 performs m x s e = ap (decided m x s) e
 
 -- and one that is answered by more than 3 is allowed
-pub answered_allowed : (m : Machine) (x : Memories) (s : Step) → 3 < answer_to m x s → first_refusal m.halted x s ≡ Allowed
+pub answered_allowed : (m : Machine) (x : Memories) (s : Step) → 3 < answer_to m x s → first_refusal m.halted x s ≡ Option.None
 unfolding stepped
 answered_allowed m x s =
-    by_verdict m.halted x s (λ v. 3 < number_of (decided m x s v).stepped.answer → v ≡ Allowed)
+    by_verdict m.halted x s (λ v. 3 < number_of (decided m x s v).stepped.answer → v ≡ Option.None)
     (λ k h. absurd (omega arith)) (λ k h. absurd (omega arith)) (λ k h. absurd (omega arith)) (λ t h. refl)
 
 -- ---- which steps enter, and which resume

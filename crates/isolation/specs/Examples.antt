@@ -1,5 +1,5 @@
 -- An example of what each theorem of this crate asks for, so that none of them speaks of nothing.
-use Rattle.std.specs.Prelude.{ℕ, ◌+◌, ◌≡◌, Bool, true, false, List, [], ◌∷◌, length, replicate}
+use Rattle.std.specs.Prelude.{ℕ, ◌+◌, ◌≡◌, Bool, true, false, List, [], ◌∷◌, length, replicate, Option}
 use Rattle.memory.specs.Memory.{Memories, memories}
 use Rattle.steps.specs.declared.Step.{Step}
 use Rattle.steps.specs.declared.Step.TheVariants.{Reset, Read, PortRead, Opcode, Boundary, MalformedBoundary, Halt}
@@ -9,7 +9,6 @@ use Rattle.steps.specs.declared.Interruption.TheVariants.{None, Input, Output, S
 use Rattle.steps.specs.declared.Answer.TheVariants.{Nothing, Ignored, Latched}
 use Rattle.steps.specs.Answers.{refusal}
 use Rattle.steps.specs.Widths.{StepFits}
-use Rattle.refusals.specs.declared.Verdict.TheVariants.{Allowed}
 use Rattle.refusals.specs.Refusals.{first_refusal}
 use Rattle.settings.specs.declared.Edition.{Edition}
 use Rattle.settings.specs.declared.Edition.TheVariants.{Cx486, Mii}
@@ -83,14 +82,14 @@ abbrev pub rsm : Step
 rsm = Opcode 0xaa 0 0 0
 
 pub record ResumptionExample (m : Machine) (x : Memories) (s : Step) : Type 0 where
-  pub allowed : first_refusal m.halted x s ≡ Allowed
+  pub allowed : first_refusal m.halted x s ≡ Option.None
   pub by : Resuming m s
   pub resumed : answer_to m x s ≡ 12
 
 pub record EntryExample (m : Machine) (s : Step) : Type 0 where
   pub machine : MachineFits m
   pub step : StepFits s
-  pub allowed : first_refusal m.halted (filled 0) s ≡ Allowed
+  pub allowed : first_refusal m.halted (filled 0) s ≡ Option.None
   pub by : Entering m s
   pub entered : answer_to m (filled 0) s ≡ 11
   pub back : ResumptionExample (stepped m (filled 0) s).stepped.machine (stepped m (filled 0) s).memory rsm

@@ -2,7 +2,7 @@
 -- "Entered" is answer 11, "resumed" 12. All of it is said of any machine: its edition decides where the header lies, whether it fits, and which
 -- byte is SMINT (02, request 1), and with SMM_MODE whether service nests (02, request 7). At the end, where RSM goes after a REP form (02,
 -- request 3).
-use Rattle.std.specs.Prelude.{ℕ, ◌+◌, ◌≤◌, ◌<◌, ◌≡◌, Bool, true, false, cond, ◌||◌, List, eqb, length, get_or}
+use Rattle.std.specs.Prelude.{ℕ, ◌+◌, ◌≤◌, ◌<◌, ◌≡◌, Bool, true, false, cond, ◌||◌, List, eqb, length, get_or, None}
 use Rattle.memory.specs.Memory.{Memories}
 use Rattle.steps.specs.declared.Step.{Step}
 use Rattle.steps.specs.declared.Step.TheVariants.{Opcode, Boundary}
@@ -10,7 +10,6 @@ use Rattle.steps.specs.declared.Interruption.{Interruption}
 use Rattle.steps.specs.declared.Answer.TheVariants.{Nothing, Ignored, Latched}
 use Rattle.steps.specs.Answers.{number_of}
 use Rattle.steps.specs.Widths.{StepFits}
-use Rattle.refusals.specs.declared.Verdict.TheVariants.{Allowed}
 use Rattle.refusals.specs.Refusals.{first_refusal}
 use Rattle.opcodes.specs.declared.Operation.TheVariants.{Smint, Rsm}
 use Rattle.opcodes.specs.Decode.{operation_of}
@@ -63,7 +62,7 @@ latch_after m (Entering.by_smint {op} {modrm} {a} {next} d v) = m.latched
 -- Both enter, unless the step is refused.
 abbrev pub EntersWhereDue : Type 0
 EntersWhereDue =
-    (m : Machine) (x : Memories) (s : Step) → first_refusal m.halted x s ≡ Allowed → Entering m s → answer_to m x s ≡ 11
+    (m : Machine) (x : Memories) (s : Step) → first_refusal m.halted x s ≡ None → Entering m s → answer_to m x s ≡ 11
 
 -- entry writes the 48 header bytes and loads its state, clears N where service nests, and nothing else moves: m and x are before the step s,
 -- and o is after it
@@ -99,7 +98,7 @@ abbrev pub PassesAsStated : Type 0
 PassesAsStated =
     (m : Machine) (x : Memories) (smi current : ℕ) (i : Interruption)
     → let s = Boundary smi current i in
-    first_refusal m.halted x s ≡ Allowed → (answer_to m x s ≡ 11 → ⊥) → Passing m x smi (stepped m x s)
+    first_refusal m.halted x s ≡ None → (answer_to m x s ≡ 11 → ⊥) → Passing m x smi (stepped m x s)
 
 -- the one way to resume: a valid RSM
 pub data Resuming (m : Machine) : Step → Type 0 where
@@ -108,7 +107,7 @@ pub data Resuming (m : Machine) : Step → Type 0 where
 -- It resumes, unless the step is refused.
 abbrev pub ResumesWhereDue : Type 0
 ResumesWhereDue =
-    (m : Machine) (x : Memories) (s : Step) → first_refusal m.halted x s ≡ Allowed → Resuming m s → answer_to m x s ≡ 12
+    (m : Machine) (x : Memories) (s : Step) → first_refusal m.halted x s ≡ None → Resuming m s → answer_to m x s ≡ 12
 
 -- It loads the registers from the header that management memory holds, and leaves the mode. Where service nests it sets N, and it stays inside
 -- if the header says that entry came from there. m and x are before the step s, and o is after it.

@@ -1,10 +1,9 @@
 -- 01, "The steps" and "Numbers the bench sees": what each step does, and one step of a machine over its two memories.
-use Rattle.std.specs.Prelude.{ℕ, Bool, true, false, cond, ◌&&◌, eqb}
+use Rattle.std.specs.Prelude.{ℕ, Bool, true, false, cond, ◌&&◌, eqb, Option, Some, None}
 use Rattle.region.specs.declared.Region.{Region}
 use Rattle.memory.specs.Memory.{segment, Memories, there, load, store, segment_at, store_segment, reads, writes}
-use Rattle.refusals.specs.declared.Verdict.{Verdict}
-use Rattle.refusals.specs.declared.Verdict.TheVariants.{Refused, Allowed}
 use Rattle.refusals.specs.Refusals.{first_refusal}
+use Rattle.steps.specs.declared.Answer.{Answer}
 use Rattle.steps.specs.declared.Answer.TheVariants.{Done, Malformed, Invalid, Absent}
 use Rattle.steps.specs.declared.Step.{Step}
 use Rattle.steps.specs.declared.Step.TheVariants.{Reset, Registers, Read, Write, PortRead, PortWrite, Opcode, Boundary, MalformedBoundary, Halt, Wake}
@@ -142,9 +141,9 @@ performed m x Halt = ends (halt_step m) x
 performed m x Wake = ends (wake_step m) x
 
 -- refused, or performed
-abbrev pub decided : Machine → Memories → Step → Verdict → Outcome
-decided m x s (Refused a) = refused m x a
-decided m x s Allowed = performed m x s
+abbrev pub decided : Machine → Memories → Step → Option Answer → Outcome
+decided m x s (Some a) = refused m x a
+decided m x s None = performed m x s
 
 unfoldable pub stepped : Machine → Memories → Step → Outcome
 stepped m x s = decided m x s (first_refusal m.halted x s)

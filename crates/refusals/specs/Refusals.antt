@@ -1,11 +1,10 @@
 -- 01, "Numbers the bench sees": the refusals 1 to 3, which are tested before a step is tried.
-use Rattle.std.specs.Prelude.{ℕ, Bool, cond, not, ◌&&◌, ◌||◌, eqb, leb, length}
+use Rattle.std.specs.Prelude.{ℕ, Bool, cond, not, ◌&&◌, ◌||◌, eqb, leb, length, Option, Some, None}
 use Rattle.memory.specs.Memory.{Memories}
+use Rattle.steps.specs.declared.Answer.{Answer}
 use Rattle.steps.specs.declared.Answer.TheVariants.{WrongSize, Malformed, WhileHalted}
 use Rattle.steps.specs.declared.Step.{Step}
 use Rattle.steps.specs.Steps.{malformed, interrupts, program}
-use Rattle.refusals.specs.declared.Verdict.{Verdict}
-use Rattle.refusals.specs.declared.Verdict.TheVariants.{Refused, Allowed}
 
 -- 01, "What the machine holds": the bytes of main memory at most, and of management memory exactly
 abbrev pub largest_main : ℕ
@@ -27,8 +26,8 @@ unfoldable pub program_while_halted : Bool → Step → Bool
 program_while_halted halted s = halted && program s
 
 -- the first of them that is called for, or none
-unfoldable pub first_refusal : Bool → Memories → Step → Verdict
+unfoldable pub first_refusal : Bool → Memories → Step → Option Answer
 first_refusal halted x s =
-    cond (wrong_sizes x) (Refused WrongSize)
-    (cond (malformed_on halted s) (Refused Malformed)
-    (cond (program_while_halted halted s) (Refused WhileHalted) Allowed))
+    cond (wrong_sizes x) (Some WrongSize)
+    (cond (malformed_on halted s) (Some Malformed)
+    (cond (program_while_halted halted s) (Some WhileHalted) None))

@@ -7,49 +7,39 @@ ghost use Rattle.refusals.specs.Refusals.{wrong_sizes, malformed_on, program_whi
 
 use steps::{Answer, Step};
 
-// The first refusal that is called for, or none.
-#[derive(Clone, Copy)]
-pub enum Verdict {
-    Refused(Answer),
-    Allowed,
-}
-
+#[tactic(auto, unfolding(crate::specs::Refusals::wrong_sizes))]
 fn have_wrong_sizes(main: &[u8], management: &[u8]) -> bool
     ensures { result ≡ wrong_sizes (memories main.now management.now) }
 {
-    if 1048576 < main.len() {
-        return true;
-    }
-    management.len() != 65536
+    1048576 < main.len() || management.len() != 65536
 }
 
+#[tactic(auto, unfolding(crate::specs::Refusals::malformed_on))]
 fn is_malformed_on(halted: bool, s: Step) -> bool
     ensures { result ≡ malformed_on halted s }
 {
-    if s.is_malformed() {
-        return true;
-    }
-    if halted { s.interrupts() } else { false }
+    s.is_malformed() || (halted && s.interrupts())
 }
 
+#[tactic(auto, unfolding(crate::specs::Refusals::program_while_halted))]
 fn is_program_while_halted(halted: bool, s: Step) -> bool
     ensures { result ≡ program_while_halted halted s }
 {
-    if halted { s.is_program() } else { false }
+    halted && s.is_program()
 }
 
-// The refusals are tested in the order of their numbers.
-pub fn first_refusal(halted: bool, main: &[u8], management: &[u8], s: Step) -> Verdict
+// The first refusal that is called for, or none; they are tested in the order of their numbers.
+#[tactic(auto, unfolding(crate::specs::Refusals::first_refusal))]
+pub fn first_refusal(halted: bool, main: &[u8], management: &[u8], s: Step) -> Option<Answer>
     ensures { result ≡ first_refusal halted (memories main.now management.now) s }
 {
     if have_wrong_sizes(main, management) {
-        return Verdict::Refused(Answer::WrongSize);
+        Some(Answer::WrongSize)
+    } else if is_malformed_on(halted, s) {
+        Some(Answer::Malformed)
+    } else if is_program_while_halted(halted, s) {
+        Some(Answer::WhileHalted)
+    } else {
+        None
     }
-    if is_malformed_on(halted, s) {
-        return Verdict::Refused(Answer::Malformed);
-    }
-    if is_program_while_halted(halted, s) {
-        return Verdict::Refused(Answer::WhileHalted);
-    }
-    Verdict::Allowed
 }

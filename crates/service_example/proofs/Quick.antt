@@ -3,12 +3,12 @@
 use mathlib.Core.Path.{◌≡◌, refl, ap, ◌∙◌}
 use mathlib.Core.Bool.{Bool, false, cond}
 use mathlib.Core.List.{List, [], ◌∷◌}
+use Rattle.std.proofs.Common.{Option, Some, None}
 use Rattle.memory.specs.Memory.{Memories}
+use Rattle.steps.specs.declared.Answer.{Answer}
 use Rattle.steps.specs.declared.Answer.TheVariants.{Malformed, WhileHalted}
 use Rattle.steps.specs.declared.Step.{Step}
 use Rattle.events.specs.Events.{event}
-use Rattle.refusals.specs.declared.Verdict.{Verdict}
-use Rattle.refusals.specs.declared.Verdict.TheVariants.{Refused, Allowed}
 use Rattle.refusals.specs.Refusals.{wrong_sizes, malformed_on, program_while_halted, first_refusal}
 use Rattle.machine.specs.declared.Machine.{Machine}
 use Rattle.machine.specs.Outcomes.{Outcome}
@@ -18,8 +18,8 @@ use Rattle.runs.proofs.Turns.{preceded}
 use Rattle.service.specs.NoMark.{serviced}
 use Rattle.service.proofs.Leaving.{sizes_stay}
 
-abbrev judged : Bool → Step → Verdict
-judged halted s = cond (malformed_on halted s) (Refused Malformed) (cond (program_while_halted halted s) (Refused WhileHalted) Allowed)
+abbrev judged : Bool → Step → Option Answer
+judged halted s = cond (malformed_on halted s) (Some Malformed) (cond (program_while_halted halted s) (Some WhileHalted) None)
 
 unfoldable pub quickly : Machine → Memories → Step → Outcome
 quickly m x s = decided m x s (judged m.halted s)

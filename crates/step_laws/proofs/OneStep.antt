@@ -1,18 +1,16 @@
 -- Demands 1 and 2 and the lock, of one step. Assumes nothing.
-use mathlib.Core.Path.{◌≡◌, refl, sym, ap, subst, ◌∙◌}
+use mathlib.Core.Path.{◌≡◌, refl, sym, subst}
 use mathlib.Core.Bool.{Bool, true, false, cond}
 use borrow.Author.Tests.{eq-eqb}
+use Rattle.std.proofs.Common.{None}
 use Rattle.memory.specs.Memory.{Memories}
 use Rattle.steps.specs.declared.Step.{Step}
-use Rattle.steps.specs.declared.Step.TheVariants.{Boundary}
 use Rattle.steps.specs.Answers.{refusal}
-use Rattle.refusals.specs.declared.Verdict.TheVariants.{Allowed}
 use Rattle.refusals.specs.Refusals.{first_refusal}
 use Rattle.refusals.proofs.Laws.{by_verdict}
 use Rattle.machine.specs.declared.Machine.{Machine}
 use Rattle.machine.specs.Outcomes.{Outcome, gives, ends, refused}
 use Rattle.machine.specs.Steps.{decided, stepped}
-use Rattle.isolation.specs.Service.{Passing}
 use Rattle.step_laws.specs.OneStep.{RefusedBy, RefusalLeaves, BoundaryPasses, LockKeeps}
 use Rattle.fields.proofs.Cases.{unlike}
 use Rattle.isolation.proofs.Refusals.{refused_as_called_for, refusal_changes_nothing}
@@ -31,15 +29,15 @@ module _ (m : Machine) (x : Memories) (s : Step) where
       go false e = refl
 
   -- a step that isn't refused is allowed
-  allowed : refusal (stepped m x s).stepped.answer ≡ false → first_refusal m.halted x s ≡ Allowed
+  allowed : refusal (stepped m x s).stepped.answer ≡ false → first_refusal m.halted x s ≡ None
   unfolding stepped
   allowed =
-      by_verdict m.halted x s (λ v. refusal (decided m x s v).stepped.answer ≡ false → v ≡ Allowed)
+      by_verdict m.halted x s (λ v. refusal (decided m x s v).stepped.answer ≡ false → v ≡ None)
       (λ k h. unlike refl h) (λ k h. unlike refl h) (λ k h. unlike refl h) (λ t h. refl)
 
   boundary_passes : BoundaryPasses m x s (stepped m x s)
   boundary_passes smi current i e taken other =
-      let k = subst (λ (t : Step). first_refusal m.halted x t ≡ Allowed) e (allowed taken) in
+      let k = subst (λ (t : Step). first_refusal m.halted x t ≡ None) e (allowed taken) in
       rw e (passes_as_stated m x smi current i k (rw e at other))
 
   lock_keeps : LockKeeps m s (stepped m x s)
