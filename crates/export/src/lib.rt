@@ -1,4 +1,5 @@
-// The player for Rust and C to call: numbers and slices only. The crate export_c hands it to C under these names.
+// The player for Rust and C to call: numbers and slices only, and a function for each edition, as C has them by their names. The crate export_c
+// hands them to C under these names.
 #![tactic(auto)]
 
 ghost use Rattle.std.specs.Prelude.{◌≡◌};
@@ -13,12 +14,7 @@ use settings::Edition;
 fn reason_number(reason: Reason) -> u8
     ensures { result ≡ reason_number reason }
 {
-    match reason {
-        Reason::End => 0,
-        Reason::Limit => 1,
-        Reason::Torn => 2,
-        Reason::Bad => 3,
-    }
+    reason as u8
 }
 
 // Plays a trace from a machine of an edition after a reset. The result is the count of records; the number of the reason to stop goes to
@@ -36,8 +32,7 @@ fn replay(
     ensures word { SaysWord trace.now reason.new }
 {
     let played = player::play(trace, Machine::initial(edition), main, management, events);
-    let why = played.reason;
-    *reason = reason_number(why);
+    *reason = reason_number(played.reason);
     played.count
 }
 

@@ -1,10 +1,11 @@
 -- The digits of a number, by how many it has. Assumes nothing.
-use mathlib.Core.Path.{◌≡◌, refl}
-use mathlib.Core.List.{[], ◌∷◌}
-use Prim.Native.Nat.{ℕ, zero, suc, ◌/◌, ◌%◌, ◌≤◌, ◌<◌}
+use mathlib.Core.Path.{◌≡◌, sym, ap, ◌∙◌}
+use mathlib.Core.List.{List, [], ◌∷◌, ◌++◌, append_assoc}
+use Prim.Native.Nat.{ℕ, suc, ◌+◌, ◌-◌, ◌/◌, ◌%◌, ◌≤◌, ◌<◌}
 use native.Mathlib.Omega.{arith}
 use borrow.Author.Tests.{lt-ltb, le-ltb}
-use lib.ListN.{length, length-append}
+use lib.ListN.{length, drop, set}
+use Rattle.std.proofs.lemmas.List.{drop-set}
 use Rattle.lines.specs.Lines.{digit_of, decimal_of, hex_of}
 
 module _ (n : ℕ) where
@@ -27,8 +28,19 @@ module _ (n : ℕ) where
       let e : n / 10 / 10 ≡ n / 100 = omega arith in
       simp (le-ltb _ _ g, le-ltb _ _ l, e, lt-ltb _ _ m)
 
-pub hex_length : (count v : ℕ) → length (hex_of count v) ≡ count
-unfolding hex_of
-hex_length zero v = refl
-hex_length (suc count) v =
-    omega (arith, length-append (hex_of count (v / 16)) (digit_of (v % 16) ∷ []), hex_length count (v / 16))
+-- the last of the digits that are left is put before those that stand
+module _ (digits whole : List ℕ) where
+  pub digit_turn : (left v d : ℕ) → 0 < left → left ≤ length digits → d ≡ digit_of (v % 16) → hex_of left v ++ drop left digits ≡ whole
+      → hex_of (left - 1) (v / 16) ++ drop (left - 1) (set digits (left - 1) d) ≡ whole
+  unfolding hex_of
+  digit_turn left v d h k f e =
+      let i : left - 1 < length digits = omega arith in
+      let j : left ≡ left - 1 + 1 = omega arith in
+      let n : left ≡ suc (left - 1) = omega arith in
+      rw (drop-set digits (left - 1) d i, f, ← j) (sym (append_assoc (hex_of (left - 1) (v / 16)) (digit_of (v % 16) ∷ []) (drop left digits)) ∙ ap (λ (m : ℕ). hex_of m v ++ drop left digits) (sym n) ∙ e)
+
+  pub digits_end : (left v : ℕ) → left ≤ 0 → hex_of left v ++ drop left digits ≡ whole → digits ≡ whole
+  unfolding hex_of
+  digits_end left v h e =
+      let k : left ≡ 0 = omega arith in
+      rw k at e

@@ -1,18 +1,19 @@
 -- Storing a text piece by piece. Assumes nothing.
 use mathlib.Core.Path.{◌≡◌, refl, sym, ap, ◌∙◌}
 use mathlib.Core.List.{List, [], ◌∷◌, ◌++◌, map, append-nil, append_assoc}
-use Prim.Native.Nat.{ℕ, zero, suc, ◌+◌, ◌-◌, ◌/◌, ◌%◌, ◌≤◌, ◌<◌}
+use Prim.Native.Nat.{ℕ, zero, suc, ◌+◌, ◌-◌, ◌≤◌, ◌<◌}
 use native.Mathlib.Nat.{not-suc-le-zero}
 use native.Mathlib.Numerals.{add-one}
 use native.Mathlib.Omega.{arith}
-use lib.ListN.{length, get_or, take, drop, set, length-append, length-set, drop_of_length-le}
-use lib.Seq.{sets, length-sets, drop-cons}
-use Rattle.fields.proofs.Storing.{sets_append, sets_set_above, stored_front}
+use lib.ListN.{length, get_or, take, drop, length-append}
+use lib.Seq.{length-sets}
+use Rattle.std.proofs.lemmas.List.Edits.{sets-eq}
+use Rattle.fields.proofs.Storing.{sets_append, stored_front}
 use Rattle.events.specs.Events.{Event, noted}
 use Rattle.events.proofs.Packing.{taken_apart}
-use Rattle.lines.specs.Lines.{space, newline, digit_of, decimal_of, hex_of, line_of, lines_of}
+use Rattle.lines.specs.Lines.{space, newline, decimal_of, hex_of, line_of, lines_of}
 use Rattle.lines.specs.Stores.{line_for, lines_for, Stored, Printed}
-use Rattle.lines.proofs.Digits.{one_digit, two_digits, three_digits, hex_length}
+use borrow.Rule.Slice.PartMut.{put_mid, Post-is}
 
 -- one text after another
 pub both : {xs ys a b c : List ℕ} {p q r : ℕ} → Stored xs p q a b → Stored ys q r b c → Stored (xs ++ ys) p r a c
@@ -22,66 +23,19 @@ both {xs} {ys} {a} {b} {c} {p} {q} {r} s t = record {
   stands = t.stands ∙ rw (s.stands, s.ends) (sym (sets_append a p xs ys));
 }
 
-one : (a : List ℕ) (p x : ℕ) → p < length a → Stored (x ∷ []) p (p + 1) a (set a p x)
-one a p x h = record { ends = refl; fits = omega arith; stands = refl }
+-- a text that was copied over the part from a place to its end
+pub copied : (l text part : List ℕ) (at : ℕ) → at + length text ≤ length l → part ≡ text → Stored text at (at + length text) l (put_mid at (at + length text - at) l part)
+copied l text part at h e = record {
+  ends = refl;
+  fits = h;
+  stands = rw (e, Post-is at (at + length text) l (omega arith), sets-eq text l at h) (sym (append_assoc (take at l) text (drop (at + length text) l)));
+}
 
--- the digits of an answer, stored one by one
-module _ (l : List ℕ) (at n x y z : ℕ) (room : at + 3 ≤ length l) where
-  pub one_stored : n < 10 → x ≡ digit_of n → Stored (decimal_of 3 n) at (at + 1) l (set l at x)
-  one_stored h e = rw (one_digit n h, e) (record { ends = refl; fits = omega arith; stands = refl })
-
-  pub two_stored : 10 ≤ n → n < 100 → x ≡ digit_of (n / 10) → y ≡ digit_of (n % 10)
-      → Stored (decimal_of 3 n) at (at + 2) l (set (set l at x) (at + 1) y)
-  two_stored h k e f = rw (two_digits n h k, e, f, add-one) (record { ends = refl; fits = omega arith; stands = refl })
-
-  pub three_stored : 100 ≤ n → n < 1000 → x ≡ digit_of (n / 100) → y ≡ digit_of (n / 10 % 10) → z ≡ digit_of (n % 10)
-      → Stored (decimal_of 3 n) at (at + 3) l (set (set (set l at x) (at + 1) y) (at + 2) z)
-  three_stored h k e f g =
-      let i : at + 1 ≡ suc at = omega arith in
-      let j : at + 2 ≡ suc (suc at) = omega arith in
-      rw (three_digits n h k, e, f, g, i, j) (record { ends = refl; fits = omega arith; stands = refl })
-
--- the last of the digits that are left is stored first
-module _ (l whole : List ℕ) (at : ℕ) where
-  last_digit : (count v : ℕ) → sets l at (hex_of (suc count) v) ≡ whole
-      → sets (set l (at + count) (digit_of (v % 16))) at (hex_of count (v / 16)) ≡ whole
-  unfolding hex_of
-  last_digit count v e =
-      let ds : List ℕ = hex_of count (v / 16) in
-      let d : ℕ = digit_of (v % 16) in
-      let n : length ds ≡ count = hex_length count (v / 16) in
-      let k : at + length ds ≡ at + count = omega arith in
-      let h : at + length ds ≤ at + count = omega arith in
-      sym (sets_append l at ds (d ∷ []) ∙ ap (λ (m : ℕ). set (sets l at ds) m d) k ∙ sets_set_above l at ds (at + count) d h) ∙ e
-
-  pub digit_turn : (left v d : ℕ) → 0 < left → d ≡ digit_of (v % 16) → sets l at (hex_of left v) ≡ whole
-      → sets (set l (at + (left - 1)) d) at (hex_of (left - 1) (v / 16)) ≡ whole
-  digit_turn left v d h f e =
-      let k : left ≡ suc (left - 1) = omega arith in
-      rw f (last_digit (left - 1) v (ap (λ (m : ℕ). sets l at (hex_of m v)) (sym k) ∙ e))
-
-  pub digit_end : (left v : ℕ) → left ≤ 0 → sets l at (hex_of left v) ≡ whole → l ≡ whole
-  unfolding hex_of
-  digit_end left v h e =
-      let k : left ≡ 0 = omega arith in
-      ap (λ (m : ℕ). sets l at (hex_of m v)) (sym k) ∙ e
-
--- one byte of a text
-pub byte_turn : (l whole text : List ℕ) (at i : ℕ) → i < length text → sets l (at + i) (drop i text) ≡ whole
-    → sets (set l (at + i) (get_or text i 0)) (at + (i + 1)) (drop (i + 1) text) ≡ whole
-byte_turn l whole text at i h e =
-    let k : at + (i + 1) ≡ suc (at + i) = omega arith in
-    rw (k, add-one) (sym (ap (sets l (at + i)) (drop-cons text i 0 h)) ∙ e)
-
-pub byte_end : (l whole text : List ℕ) (at i : ℕ) → length text ≤ i → sets l (at + i) (drop i text) ≡ whole → l ≡ whole
-byte_end l whole text at i h e = sym (ap (sets l (at + i)) (drop_of_length-le text h)) ∙ e
-
-pub line_stored : {a b c : List ℕ} {p q r : ℕ} (n v : ℕ) → r < length c → Stored (decimal_of 3 n) p q a b → Stored (hex_of 8 v) (q + 1) r (set b q space) c
-    → Stored (line_of n v) p (r + 1) a (set c r newline)
+-- a line, by its four parts
+pub line_stored : {a b c d e : List ℕ} {p q r s t : ℕ} (n v : ℕ) → Stored (decimal_of 3 n) p q a b → Stored (space ∷ []) q r b c → Stored (hex_of 8 v) r s c d
+    → Stored (newline ∷ []) s t d e → Stored (line_of n v) p t a e
 unfolding line_of
-line_stored {a} {b} {c} {p} {q} {r} n v h s t =
-    let k : q < length b = omega (arith, t.ends, t.fits, length-set b q space) in
-    both (both s (both (one b q space k) t)) (one c r newline h)
+line_stored n v w x y z = both (both w (both x y)) z
 
 -- one line more
 lines_more : (es : List ℕ) (i : ℕ) → i < length es → lines_for (take (suc i) es) ≡ lines_for (take i es) ++ line_for (get_or es i 0)

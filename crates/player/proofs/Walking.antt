@@ -1,8 +1,8 @@
 -- The walk of a list, stretch by stretch and round after round. Assumes nothing.
+use Rattle.std.specs.Prelude.{Result, Ok, Err}
 use mathlib.Core.Path.{◌≡◌, refl, sym, ap, ◌∙◌}
 use mathlib.Core.Bool.{Bool, true, false, cond, ◌&&◌}
 use mathlib.Core.List.{List, ◌++◌, append_assoc, append-nil}
-use mathlib.Core.Logic.{◌⊎◌, ⊎_elim}
 use Prim.Native.Nat.{ℕ, zero, suc, ◌+◌, ◌-◌, ◌<◌, ◌≤◌}
 use native.Mathlib.Omega.{arith}
 use borrow.Author.Tests.{ltb-true, ltb-false, le-ltb, lt-ltb, leb-true, leb-false}
@@ -10,16 +10,17 @@ use lib.Dec.{leb, ltb}
 use lib.ListN.{length, length-append}
 use Rattle.steps.specs.declared.Step.{Step}
 use Rattle.machine.specs.declared.Machine.{Machine}
+use Rattle.trace.specs.declared.Group.{Group}
 use Rattle.trace.specs.declared.Found.{Found}
 use Rattle.trace.specs.declared.Found.TheVariants as found
+use Rattle.trace.specs.declared.Ending.{Ending}
+use Rattle.trace.specs.declared.Ending.TheVariants as ending
 use Rattle.trace.specs.Trace.{part, ended, found_at}
 use Rattle.lines.specs.declared.Reason.{Reason}
 use Rattle.lines.specs.declared.Reason.TheVariants as why
 use Rattle.scripts.specs.Scripts.{record_limit, group_levels, Script, is_end, stops, follows, joins, repeated, grouped, rest, within, whole, limited}
 use Rattle.scripts.proofs.Reading.{found_past, rest_none, rest_found, within_all, within_some, within_holds, repeated_some, part_some, more_left, end_is, false_true}
 use Rattle.scripts.proofs.Limits.{ends, limited_end, limited_stop, limited_none}
-use Rattle.records.specs.declared.Stop.{Stop}
-use Rattle.records.specs.declared.Stop.TheVariants.{Group, Leave}
 use Rattle.records.specs.Stretches.{State, state, after, Stretch, stopped, over, place_at, left_at, stretch_by, stretch_from, Stretches}
 use Rattle.player.specs.Walks.{Goes, times, admitted, Fit}
 use Rattle.records.proofs.States.{after_count}
@@ -121,11 +122,11 @@ module _ (depth : ℕ) (l : List ℕ) where
   -- ---- after a stretch of records
 
   -- after k records of at most n, by what ended them: u is what is left in all
-  abbrev Left : Stop → ℕ → ℕ → ℕ → Script → Type 0
-  Left (Group count start next) left n k u =
-      (k < n) × (u ≡ upcoming (grouped count (within (depth - 1) (part l start next)) (round next)) left)
-      × (start < next) × (next ≤ length l) × (0 < count) × Fit depth left l
-  Left (Leave q) left n k u = limited (n - k) u ≡ stops q
+  abbrev Left : Result Group Reason → ℕ → ℕ → ℕ → Script → Type 0
+  Left (Ok g) left n k u =
+      (k < n) × (u ≡ upcoming (grouped g.count (within (depth - 1) (part l g.start g.next)) (round g.next)) left)
+      × (g.start < g.next) × (g.next ≤ length l) × (0 < g.count) × Fit depth left l
+  Left (Err q) left n k u = limited (n - k) u ≡ stops q
 
   pub record Leaving (at left n : ℕ) (t : Stretch) : Type 0 where
     pub script : Script
@@ -134,17 +135,17 @@ module _ (depth : ℕ) (l : List ℕ) where
     pub after : Left t.stop t.left n (length t.steps) script
 
   -- one record more
-  left_suc : (stop : Stop) (left n k : ℕ) (u : Script) → Left stop left n k u → Left stop left (suc n) (suc k) u
-  left_suc (Group count start next) left n k u w = (omega (arith, w.0), w.1, w.2, w.3, w.4, w.5)
-  left_suc (Leave q) left n k u w = let e : suc n - suc k ≡ n - k = omega arith in ap (λ (m : ℕ). limited m u) e ∙ w
+  left_suc : (stop : Result Group Reason) (left n k : ℕ) (u : Script) → Left stop left n k u → Left stop left (suc n) (suc k) u
+  left_suc (Ok g) left n k u w = (omega (arith, w.0), w.1, w.2, w.3, w.4, w.5)
+  left_suc (Err q) left n k u w = let e : suc n - suc k ≡ n - k = omega arith in ap (λ (m : ℕ). limited m u) e ∙ w
 
   -- none
-  leaves_at : (at left n k : ℕ) (q : Reason) → limited n (upcoming (round at) left) ≡ stops q → Leaving at left n (stopped k (Leave q))
+  leaves_at : (at left n k : ℕ) (q : Reason) → limited n (upcoming (round at) left) ≡ stops q → Leaving at left n (stopped k (Err q))
   leaves_at at left n k q e =
       let f : n - 0 ≡ n = omega arith in
       record { script = upcoming (round at) left; joined = refl; most = omega arith; after = ap (λ (m : ℕ). limited m (upcoming (round at) left)) f ∙ e }
 
-  leaves_over : (at left n : ℕ) → Standing at left → over l at left ≡ true → Leaving at left n (stopped left (Leave why.End))
+  leaves_over : (at left n : ℕ) → Standing at left → over l at left ≡ true → Leaving at left n (stopped left (Err why.End))
   leaves_over at left n w e =
       leaves_at at left n left why.End (ap (limited n) (over_by at left w (ended l at) (leb left 1) refl refl e) ∙ limited_end n)
 
@@ -152,11 +153,11 @@ module _ (depth : ℕ) (l : List ℕ) where
   leaving_turn : (at left p k n : ℕ) (t : Stretch) → Turning at left p k → Leaving p k n t → Leaving at left n t
   leaving_turn at left p k n t r w = record { script = w.script; joined = r.same ∙ w.joined; most = w.most; after = w.after }
 
-  leaving_by : (n p k : ℕ) → Standing p k → p < length l → (f : Found) → found_at l p ≡ f
+  leaving_by : (n p k : ℕ) → Standing p k → p < length l → (f : Result (Found Step) Ending) → found_at l p ≡ f
       → ((next : ℕ) → Standing next k → Leaving next k n (stretch_from n l next k))
       → Leaving p k (suc n) (stretch_by f k (λ next. stretch_from n l next k))
-  leaving_by n p k s i (found.Record step next) e h =
-      let f = rest_found (within (depth - 1)) l p (found.Record step next) e in
+  leaving_by n p k s i (Ok (found.Record step next)) e h =
+      let f = rest_found (within (depth - 1)) l p (Ok (found.Record step next)) e in
       let t = stretch_from n l next k in
       let w = h next (record { fit = s.fit; clean = λ j. ap (λ (u : Script). is_end u.reason) (sym f) ∙ s.clean j }) in
       record {
@@ -165,31 +166,31 @@ module _ (depth : ℕ) (l : List ℕ) where
         most = omega (arith, w.most);
         after = left_suc t.stop t.left n (length t.steps) w.script w.after;
       }
-  leaving_by n p k s i (found.Group count start next) e h =
-      let b = found_past l p (found.Group count start next) e in
+  leaving_by n p k s i (Ok (found.Group g)) e h =
+      let b = found_past l p (Ok (found.Group g)) e in
       record {
         script = upcoming (round p) k;
         joined = refl;
         most = omega arith;
         after = (
           omega arith,
-          ap (λ (u : Script). upcoming u k) (rest_found (within (depth - 1)) l p (found.Group count start next) e),
+          ap (λ (u : Script). upcoming u k) (rest_found (within (depth - 1)) l p (Ok (found.Group g)) e),
           b.2,
           b.1,
           b.3,
           s.fit,
         );
       }
-  leaving_by n p k s i found.End e h = absurd (omega (arith, found_past l p found.End e))
-  leaving_by n p k s i found.Torn e h =
+  leaving_by n p k s i (Err ending.End) e h = absurd (omega (arith, found_past l p (Err ending.End) e))
+  leaving_by n p k s i (Err ending.Torn) e h =
       leaves_at p k (suc n) k why.Torn
-      (ap (limited (suc n)) (unclean p k s why.Torn refl (rest_found (within (depth - 1)) l p found.Torn e)) ∙ limited_stop (suc n) why.Torn (omega arith))
-  leaving_by n p k s i found.Bad e h =
+      (ap (limited (suc n)) (unclean p k s why.Torn refl (rest_found (within (depth - 1)) l p (Err ending.Torn) e)) ∙ limited_stop (suc n) why.Torn (omega arith))
+  leaving_by n p k s i (Err ending.Bad) e h =
       leaves_at p k (suc n) k why.Bad
-      (ap (limited (suc n)) (unclean p k s why.Bad refl (rest_found (within (depth - 1)) l p found.Bad e)) ∙ limited_stop (suc n) why.Bad (omega arith))
+      (ap (limited (suc n)) (unclean p k s why.Bad refl (rest_found (within (depth - 1)) l p (Err ending.Bad) e)) ∙ limited_stop (suc n) why.Bad (omega arith))
 
   leaving_none : (at left : ℕ) → Standing at left → (b : Bool) → over l at left ≡ b
-      → Leaving at left 0 (cond b (stopped left (Leave why.End)) (stopped (left_at l at left) (Leave why.Limit)))
+      → Leaving at left 0 (cond b (stopped left (Err why.End)) (stopped (left_at l at left) (Err why.Limit)))
   leaving_none at left w true e = leaves_over at left 0 w e
   leaving_none at left w false e =
       let r = turning at left w e in
@@ -200,7 +201,7 @@ module _ (depth : ℕ) (l : List ℕ) where
 
   leaving_some : (n at left : ℕ) → Standing at left → ((next k : ℕ) → Standing next k → Leaving next k n (stretch_from n l next k)) → (b : Bool) → over l at left ≡ b
       → Leaving at left (suc n)
-      (cond b (stopped left (Leave why.End)) (stretch_by (found_at l (place_at l at)) (left_at l at left) (λ next. stretch_from n l next (left_at l at left))))
+      (cond b (stopped left (Err why.End)) (stretch_by (found_at l (place_at l at)) (left_at l at left) (λ next. stretch_from n l next (left_at l at left))))
   leaving_some n at left w h true e = leaves_over at left (suc n) w e
   leaving_some n at left w h false e =
       let r = turning at left w e in
@@ -234,7 +235,7 @@ times_ends : (n : ℕ) (h : Script) → is_end h.reason ≡ true → times n h �
 times_ends n h e = ap (λ (q : Reason). record { steps = repeated n h.steps; reason = q }) (end_is _ e)
 
 module _ {depth : ℕ} {l : List ℕ} {s o : State} {r : Reason} {at left : ℕ} (w : Walking o r depth l s at left)
-    {m : Machine} (anew : m ≡ s.machine) {s' : State} {k : ℕ} {stop : Stop}
+    {m : Machine} (anew : m ≡ s.machine) {s' : State} {k : ℕ} {stop : Result Group Reason}
     (ran-anew : Stretches l at left (state m s.memory s.count s.events) s' k stop) where
   g : Stretches l at left s s' k stop
   g = rw anew at ran-anew
@@ -254,40 +255,40 @@ module _ {depth : ℕ} {l : List ℕ} {s o : State} {r : Reason} {at left : ℕ}
   ran : Goes s' leaves.script o r
   ran = rw g.state_is (go_on s o r _ w.same run leaves.script leaves.joined leaves.most)
 
-  by_stop : (q : Stop) → stop ≡ q → Left depth l q k (record_limit - s.count) (length run) leaves.script
+  by_stop : (q : Result Group Reason) → stop ≡ q → Left depth l q k (record_limit - s.count) (length run) leaves.script
   by_stop q e = rw (sym e ∙ g.stop_is, g.left_is) leaves.after
 
   -- a reason to stop
-  pub run_out : {q : Reason} → stop ≡ Leave q → (s' ≡ o) × (q ≡ r)
+  pub run_out : {q : Reason} → stop ≡ Err q → (s' ≡ o) × (q ≡ r)
   run_out {q} e =
       let f : record_limit - s'.count ≡ record_limit - s.count - length run = omega (arith, count_is, leaves.most, w.room) in
-      goes_stops s' o r leaves.script ran q (ap (λ (n : ℕ). limited n leaves.script) f ∙ by_stop (Leave q) e)
+      goes_stops s' o r leaves.script ran q (ap (λ (n : ℕ). limited n leaves.script) f ∙ by_stop (Err q) e)
 
   -- a group
-  module _ {count start next : ℕ} (e : stop ≡ Group count start next) where
+  module _ {group : Group} (e : stop ≡ Ok group) where
     abbrev list : List ℕ
-    list = part l start next
+    list = part l group.start group.next
 
     abbrev inner : Script
     inner = within (depth - 1) list
 
     abbrev found_group : Script
-    found_group = grouped count inner (round depth l next)
+    found_group = grouped group.count inner (round depth l group.next)
 
     fit : Fit depth k l
-    fit = (by_stop (Group count start next) e).5
+    fit = (by_stop (Ok group) e).5
 
     script_is : leaves.script ≡ upcoming depth l found_group k
-    script_is = (by_stop (Group count start next) e).1
+    script_is = (by_stop (Ok group) e).1
 
     clean : depth ≤ group_levels → is_end found_group.reason ≡ true
     clean j = ap (λ (u : Script). is_end u.reason) (sym (leaves.joined ∙ ap (joins run) script_is)) ∙ w.stands.clean j
 
     pub group_room : s'.count < record_limit
-    group_room = omega (arith, (by_stop (Group count start next) e).0, count_is)
+    group_room = omega (arith, (by_stop (Ok group) e).0, count_is)
 
-    pub group_bounds : (start < next) × (next ≤ length l) × (0 < count)
-    group_bounds = let f = by_stop (Group count start next) e in (f.2, f.3, f.4)
+    pub group_bounds : (group.start < group.next) × (group.next ≤ length l) × (0 < group.count)
+    group_bounds = let f = by_stop (Ok group) e in (f.2, f.3, f.4)
 
     module _ {b : Bool} (a : b ≡ admitted (depth - 1) list) where
       outermost : group_levels < depth → b ≡ is_end inner.reason
@@ -312,13 +313,13 @@ module _ {depth : ℕ} {l : List ℕ} {s o : State} {r : Reason} {at left : ℕ}
       module _ (f : b ≡ true) where
         sound : is_end inner.reason ≡ true
         sound = by_depth _ depth
-            (λ j. grouped_end (is_end inner.reason) (joins (repeated count inner.steps) (round depth l next)) found_group refl (clean j))
+            (λ j. grouped_end (is_end inner.reason) (joins (repeated group.count inner.steps) (round depth l group.next)) found_group refl (clean j))
             (λ j. sym (outermost j) ∙ f)
 
         full : 0 < length list
-        full = part_some l start next group_bounds.0 group_bounds.1
+        full = part_some l group.start group.next group_bounds.0 group_bounds.1
 
-        pub run_fit : Fit (depth - 1) count list
+        pub run_fit : Fit (depth - 1) group.count list
         run_fit = record {
           deep = within_some (depth - 1) list sound;
           most = omega (arith, fit.most);
@@ -329,20 +330,20 @@ module _ {depth : ℕ} {l : List ℕ} {s o : State} {r : Reason} {at left : ℕ}
         }
 
         module _ {m' : Machine} (anew' : m' ≡ s'.machine) {s'' : State} {q : Reason}
-            (goes : Goes (state m' s'.memory s'.count s'.events) (times count inner) s'' q) where
+            (goes : Goes (state m' s'.memory s'.count s'.events) (times group.count inner) s'' q) where
           abbrev written : List Step
-          written = repeated count inner.steps
+          written = repeated group.count inner.steps
 
           goes_ends : Goes s' (ends written) s'' q
-          goes_ends = rw (anew', times_ends count inner sound) at goes
+          goes_ends = rw (anew', times_ends group.count inner sound) at goes
 
-          group_is : found_group ≡ joins written (round depth l next)
+          group_is : found_group ≡ joins written (round depth l group.next)
           group_is = rw sound
 
-          joined : leaves.script ≡ joins written (upcoming depth l (round depth l next) k)
+          joined : leaves.script ≡ joins written (upcoming depth l (round depth l group.next) k)
           joined = script_is ∙ ap (λ (u : Script). upcoming depth l u k) group_is ∙ rw append_assoc
 
-          pub run_group : q ≡ why.End → Walking o r depth l s'' next k
+          pub run_group : q ≡ why.End → Walking o r depth l s'' group.next k
           run_group j = record {
             stands = record { fit = fit; clean = λ i. ap (λ (u : Script). is_end u.reason) (sym group_is) ∙ clean i };
             room = goes_room s' (ends written) s'' q goes_ends room;
@@ -352,17 +353,13 @@ module _ {depth : ℕ} {l : List ℕ} {s o : State} {r : Reason} {at left : ℕ}
           -- it had a record
           pub run_further : q ≡ why.End → s.count < s''.count
           run_further j =
-              let i : 0 < length written = repeated_some count inner.steps group_bounds.2 (within_holds (depth - 1) list full sound) in
+              let i : 0 < length written = repeated_some group.count inner.steps group_bounds.2 (within_holds (depth - 1) list full sound) in
               let c : s''.count ≡ s'.count + length written =
               ap (λ (t : State). t.count) (after_all s' o r _ ran written _ joined s'' q goes_ends j) ∙ after_count s' written in
               omega (arith, c, count_is)
 
           pub run_cut : (q ≡ why.End → ⊥) → (s'' ≡ o) × (why.Limit ≡ r)
           run_cut j = go_cut s' o r _ ran written _ joined s'' q goes_ends j
-
--- a reason that is one of the last three is not the end
-pub other_tag : (◌≡◌ {A = ℕ} 0 1) ⊎ ((◌≡◌ {A = ℕ} 0 2) ⊎ (◌≡◌ {A = ℕ} 0 3)) → ⊥
-other_tag = ⊎_elim (λ e. omega arith) (⊎_elim (λ e. omega arith) (λ e. omega arith))
 
 -- where the walk leaves, from where it began
 pub from_start : {s₀ s : State} {t : Script} {q : Reason}

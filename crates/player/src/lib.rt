@@ -11,7 +11,6 @@ ghost use Rattle.player.specs.Walks.{Goes, times, admitted, Fit};
 
 use lines::Reason;
 use machine::Machine;
-use records::Stop;
 use settings::Edition;
 
 const GROUP_LEVELS: usize = 8;
@@ -24,13 +23,11 @@ pub struct Played {
 }
 
 // Whether a group may be run: an outermost one is read through first, and the groups in it have been by then.
+#[tactic(auto, unfolding(crate::specs::Walks::admitted))]
 fn is_admitted(list: &[u8], depth: usize) -> bool
     ensures { result ≡ admitted depth list.now }
 {
-    if depth < GROUP_LEVELS {
-        return true;
-    }
-    scripts::is_sound(list, depth)
+    depth < GROUP_LEVELS || scripts::is_sound(list, depth)
 }
 
 // Runs a list of records as often as its rounds say, or up to the limit. Each turn of the loop runs a sound group, which has at least one
@@ -53,8 +50,8 @@ fn walk(
         (state result.machine (memories main.new management.new) result.count events.new) result.reason }
 {
     let mut machine = start;
-    let mut count: usize = done;
-    let mut place: usize = 0;
+    let mut count = done;
+    let mut place = 0;
     let mut left = rounds;
     let reason = loop {
         let ran = records::run(
@@ -67,41 +64,33 @@ fn walk(
             management,
             events,
         );
-        let stop = ran.stop;
         machine = ran.machine;
         count = ran.count;
         left = ran.left;
-        match stop {
-            Stop::Group {
-                rounds,
-                start,
-                next,
-            } => {
-                if !is_admitted(&list[start..next], depth - 1) {
-                    break Reason::Bad;
-                }
-                let inner = walk(
-                    &list[start..next],
-                    depth - 1,
-                    rounds,
-                    machine.anew(),
-                    count,
-                    main,
-                    management,
-                    events,
-                );
-                let why = inner.reason;
-                machine = inner.machine;
-                count = inner.count;
-                let Reason::End = why else {
-                    break Reason::Limit;
-                };
-                place = next;
-            }
-            Stop::Leave { reason } => {
-                break reason;
-            }
+        let group = match ran.stop {
+            Ok(group) => group,
+            Err(reason) => break reason,
+        };
+        let inside = &list[group.start..group.next];
+        if !is_admitted(inside, depth - 1) {
+            break Reason::Bad;
         }
+        let inner = walk(
+            inside,
+            depth - 1,
+            group.count,
+            machine.anew(),
+            ran.count,
+            main,
+            management,
+            events,
+        );
+        machine = inner.machine;
+        count = inner.count;
+        if inner.reason != Reason::End {
+            break Reason::Limit;
+        }
+        place = group.next;
     };
     Played {
         machine,
@@ -150,11 +139,10 @@ pub fn replay(
 {
     let mut events = [0u64; 10000];
     let played = play(trace, start, main, management, &mut events);
-    let reason = played.reason;
-    lines::write(&events, played.count, reason, out)
+    lines::write(&events, played.count, played.reason, out)
 }
 
-// All that the program of an edition prints for an input. The result is its size.
+// All that the program of an edition prints for an input. The result is its size: there is no heap, so the caller lends the buffer.
 pub fn output(edition: Edition, input: &[u8], out: &mut [u8; 130006]) -> usize
     ensures { Printed (output_of edition input.now) result out.old out.new }
 {

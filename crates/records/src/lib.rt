@@ -5,35 +5,24 @@ ghost use Rattle.records.specs.Stretches.{state, Stretches};
 
 use lines::Reason;
 use machine::Machine;
-use trace::Found;
+use trace::{Found, Group};
 
 const RECORD_LIMIT: usize = 10000;
 
-// What a stretch of records ends at: a group, or a reason to stop.
-#[derive(Clone, Copy)]
-pub enum Stop {
-    Group {
-        rounds: u16,
-        start: usize,
-        next: usize,
-    },
-    Leave {
-        reason: Reason,
-    },
-}
-
-// What a stretch of records leaves; left are the rounds of the list that are not done, the present one among them.
+// What a stretch of records leaves; left are the rounds of the list that are not done, the present one among them. It ends at a group, or there
+// is a reason to stop.
 #[derive(Clone, Copy)]
 pub struct Ran {
     pub machine: Machine,
     pub count: usize,
     pub left: u16,
-    pub stop: Stop,
+    pub stop: Result<Group, Reason>,
 }
 
 // Runs the records from a place of a list on, for as many rounds as are not done, up to a group or a reason to stop. The next round begins
 // in the turn of the loop that runs its first record, so that each turn runs one or leaves. What is noted of each record goes to the list of
-// events. The machine is put together anew, so that the loop doesn't copy the gaps between its fields.
+// events. The machine is put together anew, so that the loop doesn't copy the gaps between its fields. The memories and the events stay three
+// parameters: a struct of references would need a clause on their names in each contract.
 pub fn run(
     list: &[u8],
     from: usize,
@@ -49,60 +38,31 @@ pub fn run(
         (state result.machine (memories main.new management.new) result.count events.new) result.left result.stop }
 {
     let mut machine = start;
-    let mut place: usize = from;
+    let mut place = from;
     let mut left = rounds;
-    let mut count: usize = done;
+    let mut count = done;
     let stop = loop {
-        if list.len() <= place {
+        if place >= list.len() {
             if left <= 1 {
-                break Stop::Leave {
-                    reason: Reason::End,
-                };
+                break Err(Reason::End);
             }
             left -= 1;
             place = 0;
         }
-        if RECORD_LIMIT <= count {
-            break Stop::Leave {
-                reason: Reason::Limit,
-            };
+        if count >= RECORD_LIMIT {
+            break Err(Reason::Limit);
         }
         match trace::record_at(list, place) {
-            Found::Record { step, next } => {
+            Ok(Found::Record { step, next }) => {
                 let inside = machine.inside;
                 let stepped = machine.step(main, management, step);
-                let answer = stepped.answer;
-                events[count] = events::note(step, inside, answer);
+                events[count] = events::note(step, inside, stepped.answer);
                 place = next;
                 count += 1;
                 machine = stepped.machine;
             }
-            Found::Group {
-                count: rounds,
-                start,
-                next,
-            } => {
-                break Stop::Group {
-                    rounds,
-                    start,
-                    next,
-                };
-            }
-            Found::End => {
-                break Stop::Leave {
-                    reason: Reason::End,
-                };
-            }
-            Found::Torn => {
-                break Stop::Leave {
-                    reason: Reason::Torn,
-                };
-            }
-            Found::Bad => {
-                break Stop::Leave {
-                    reason: Reason::Bad,
-                };
-            }
+            Ok(Found::Group(group)) => break Ok(group),
+            Err(ending) => break Err(Reason::from(ending)),
         }
     };
     Ran {

@@ -6,6 +6,7 @@ use mathlib.Core.List.{List, [], ◌∷◌, ◌++◌}
 use native.Mathlib.Omega.{arith}
 use lib.Dec.{lit<}
 use lib.ListN.{length, get_or, replicate, set, length-replicate, length-set}
+use Rattle.std.proofs.Common.{Option}
 use Rattle.fields.specs.Fields.{number_by, bytes_of}
 use Rattle.region.specs.Region.{region_of, size_of, usable, within}
 use Rattle.steps.specs.declared.Step.{Step}
@@ -16,8 +17,6 @@ use Rattle.boundaries.specs.Boundaries.{interruption_of, unused_zero, boundary_o
 use Rattle.memory.specs.Memory.{Memories, memories, cell_of, byte_at, store_byte, store_bytes, absent, all_there, reads, writes}
 use Rattle.steps.specs.declared.Answer.TheVariants.{Done, Malformed, WhileHalted, Value, Ignored, Entered}
 use Rattle.steps.specs.declared.Answer.{Answer}
-use Rattle.refusals.specs.declared.Verdict.{Verdict}
-use Rattle.refusals.specs.declared.Verdict.TheVariants.{Refused, Allowed}
 use Rattle.refusals.specs.Refusals.{wrong_sizes, malformed_on, program_while_halted, first_refusal}
 use Rattle.settings.specs.declared.Settings.{Settings}
 use Rattle.settings.specs.declared.Edition.{Edition}
@@ -64,8 +63,8 @@ trying_steps = refl
 
 -- ---- a step without the test of the sizes
 
-abbrev judged : Bool → Step → Verdict
-judged halted s = cond (malformed_on halted s) (Refused Malformed) (cond (program_while_halted halted s) (Refused WhileHalted) Allowed)
+abbrev judged : Bool → Step → Option Answer
+judged halted s = cond (malformed_on halted s) (Option.Some Malformed) (cond (program_while_halted halted s) (Option.Some WhileHalted) Option.None)
 
 quickly : (m : Machine) (x : Memories) (s : Step) → wrong_sizes x ≡ false → stepped m x s ≡ decided m x s (judged m.halted s)
 unfolding stepped first_refusal

@@ -7,7 +7,11 @@ use native.Mathlib.Omega.{arith}
 use borrow.Author.Tests.{leb-true, leb-false}
 use Rattle.fields.specs.Fields.{number_by}
 use Rattle.trace.specs.declared.Found.{Found}
-use Rattle.trace.specs.declared.Found.TheVariants.{Record, Group, End, Torn, Bad}
+use Rattle.trace.specs.declared.Found.TheVariants.{Record, Group}
+use Rattle.trace.specs.declared.Ending.{Ending}
+use Rattle.trace.specs.declared.Ending.TheVariants.{End, Torn, Bad}
+use Rattle.std.specs.Prelude.{Result, Ok, Err}
+use Rattle.steps.specs.declared.Step.{Step}
 use Rattle.trace.specs.Trace.{ended, frame_at, framed, record_of, record_by, found_at}
 use Rattle.lines.specs.declared.Reason.TheVariants as why
 use Rattle.scripts.specs.Scripts.{Script, record_limit, group_levels, stops, follows, rest, within, limited}
@@ -24,13 +28,13 @@ module _ (d : ℕ) (l : List ℕ) where
   at_limit at true e = ap (limited 0) (rest_none (within d) l at (leb-true _ _ e)) ∙ limited_end 0
   at_limit at false e = limited_none 0 _ refl (more_left d l at (leb-false _ _ e))
 
-  by : (n at : ℕ) (f : Found) → found_at l at ≡ f → ((next : ℕ) → taken n next ≡ former_from taken n l next)
+  by : (n at : ℕ) (f : Result (Found Step) Ending) → found_at l at ≡ f → ((next : ℕ) → taken n next ≡ former_from taken n l next)
       → taken (suc n) at ≡ former_by f (former_from taken n l) (taken (suc n) at)
-  by n at (Record step next) e h = ap (limited (suc n)) (rest_found (within d) l at (Record step next) e) ∙ limited_suc n step _ ∙ ap (follows step) (h next)
-  by n at (Group count start next) e h = refl
-  by n at End e h = ap (limited (suc n)) (rest_found (within d) l at End e) ∙ limited_end (suc n)
-  by n at Torn e h = ap (limited (suc n)) (rest_found (within d) l at Torn e) ∙ limited_stop (suc n) why.Torn (omega arith)
-  by n at Bad e h = ap (limited (suc n)) (rest_found (within d) l at Bad e) ∙ limited_stop (suc n) why.Bad (omega arith)
+  by n at (Ok (Record step next)) e h = ap (limited (suc n)) (rest_found (within d) l at (Ok (Record step next)) e) ∙ limited_suc n step _ ∙ ap (follows step) (h next)
+  by n at (Ok (Group g)) e h = refl
+  by n at (Err End) e h = ap (limited (suc n)) (rest_found (within d) l at (Err End) e) ∙ limited_end (suc n)
+  by n at (Err Torn) e h = ap (limited (suc n)) (rest_found (within d) l at (Err Torn) e) ∙ limited_stop (suc n) why.Torn (omega arith)
+  by n at (Err Bad) e h = ap (limited (suc n)) (rest_found (within d) l at (Err Bad) e) ∙ limited_stop (suc n) why.Bad (omega arith)
 
   same_from : (n at : ℕ) → taken n at ≡ former_from taken n l at
   unfolding former_from

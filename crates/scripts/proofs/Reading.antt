@@ -8,25 +8,26 @@ use native.Mathlib.Omega.{arith}
 use lib.ListN.{length, length-append, length-take, length-drop}
 use Rattle.steps.specs.declared.Step.{Step}
 use Rattle.trace.specs.declared.Found.{Found}
-use Rattle.trace.specs.declared.Found.TheVariants.{Record, Group, End, Torn, Bad}
+use Rattle.trace.specs.declared.Found.TheVariants.{Record, Group}
+use Rattle.trace.specs.declared.Ending.{Ending}
+use Rattle.trace.specs.declared.Ending.TheVariants.{End, Torn, Bad}
+use Rattle.std.specs.Prelude.{Result, Ok, Err}
 use Rattle.trace.specs.Trace.{part, found_at}
 use Rattle.trace.proofs.Finding.{Within, found_end, found_within}
 use Rattle.lines.specs.declared.Reason.{Reason}
 use Rattle.lines.specs.declared.Reason.TheVariants as why
 use Rattle.scripts.specs.Scripts.{Script, is_end, stops, follows, joins, repeated, grouped, read_by, read_from, rest, within, Unbounded, ReadsOn}
 
-pub found_past : (l : List ℕ) (at : ℕ) (f : Found) → found_at l at ≡ f → Within l at f
+pub found_past : (l : List ℕ) (at : ℕ) (f : Result (Found Step) Ending) → found_at l at ≡ f → Within l at f
 found_past l at f e = rw e at (found_within l at)
 
 module _ (inner : List ℕ → Script) (l : List ℕ) where
   -- only the rest past the record counts
-  agree : (at : ℕ) (f : Found) → Within l at f → (g h : ℕ → Script) → ((next : ℕ) → at < next → g next ≡ h next)
+  agree : (at : ℕ) (f : Result (Found Step) Ending) → Within l at f → (g h : ℕ → Script) → ((next : ℕ) → at < next → g next ≡ h next)
       → read_by f l inner g ≡ read_by f l inner h
-  agree at (Record step next) w g h e = ap (follows step) (e next w.0)
-  agree at (Group count start next) w g h e = ap (grouped count (inner (part l start next))) (e next w.0)
-  agree at End w g h e = refl
-  agree at Torn w g h e = refl
-  agree at Bad w g h e = refl
+  agree at (Ok (Record step next)) w g h e = ap (follows step) (e next w.0)
+  agree at (Ok (Group r)) w g h e = ap (grouped r.count (inner (part l r.start r.next))) (e r.next w.0)
+  agree at (Err e) w g h k = refl
 
   none_from : (n at : ℕ) → length l ≤ at → read_from inner n l at ≡ stops why.End
   unfolding read_from
@@ -53,8 +54,8 @@ module _ (inner : List ℕ → Script) (l : List ℕ) where
       agree inner l at (found_at l at) (found_within l at) (read_from inner n l) (rest inner l)
       (λ next p. enough inner l n (length l) next (omega arith) (omega arith))
 
-  pub rest_found : (at : ℕ) (f : Found) → found_at l at ≡ f → rest inner l at ≡ read_by f l inner (rest inner l)
-  rest_found at f e = step_from (length l) at (omega arith) ∙ ap (λ (g : Found). read_by g l inner (rest inner l)) e
+  pub rest_found : (at : ℕ) (f : Result (Found Step) Ending) → found_at l at ≡ f → rest inner l at ≡ read_by f l inner (rest inner l)
+  rest_found at f e = step_from (length l) at (omega arith) ∙ ap (λ (g : Result (Found Step) Ending). read_by g l inner (rest inner l)) e
 
 pub unbounded : Unbounded
 unbounded d l at = rest_found (within d) l at (found_at l at) refl
@@ -106,16 +107,16 @@ pub part_some : (l : List ℕ) (start next : ℕ) → start < next → next ≤ 
 part_some l start next h k = simp (length-take, length-drop) (omega arith)
 
 module _ (inner : List ℕ → Script) (holds : Holding inner) (l : List ℕ) where
-  some_by : (at : ℕ) (f : Found) → Within l at f → at < length l → (g : ℕ → Script)
+  some_by : (at : ℕ) (f : Result (Found Step) Ending) → Within l at f → at < length l → (g : ℕ → Script)
       → is_end (read_by f l inner g).reason ≡ true → 0 < length (read_by f l inner g).steps
-  some_by at (Record step next) w h g e = omega arith
-  some_by at (Group count start next) w h g e =
-      let p = part l start next in
-      grouped_some (is_end (inner p).reason) (repeated count (inner p).steps) (g next)
-      (λ i. repeated_some count (inner p).steps w.3 (holds p (part_some l start next w.2 w.1) i)) e
-  some_by at End w h g e = absurd (lt_irrefl at (omega arith))
-  some_by at Torn w h g e = absurd (false_true e)
-  some_by at Bad w h g e = absurd (false_true e)
+  some_by at (Ok (Record step next)) w h g e = omega arith
+  some_by at (Ok (Group r)) w h g e =
+      let p = part l r.start r.next in
+      grouped_some (is_end (inner p).reason) (repeated r.count (inner p).steps) (g r.next)
+      (λ i. repeated_some r.count (inner p).steps w.3 (holds p (part_some l r.start r.next w.2 w.1) i)) e
+  some_by at (Err End) w h g e = absurd (lt_irrefl at (omega arith))
+  some_by at (Err Torn) w h g e = absurd (false_true e)
+  some_by at (Err Bad) w h g e = absurd (false_true e)
 
   rest_some : (at : ℕ) → at < length l → is_end (rest inner l at).reason ≡ true → 0 < length (rest inner l at).steps
   rest_some at h =

@@ -10,8 +10,11 @@ use lib.Seq.{take-append_seam}
 use Rattle.fields.specs.Fields.{number_by, field_at, bytes_of}
 use Rattle.steps.specs.declared.Step.{Step}
 use Rattle.trace.specs.declared.Found.{Found}
-use Rattle.trace.specs.declared.Found.TheVariants.{Record, Group, End, Torn, Bad}
-use Rattle.trace.specs.Trace.{part, group_kind, group_of, found_at, frame_at, framed, record_of, record_by}
+use Rattle.trace.specs.declared.Found.TheVariants.{Record, Group}
+use Rattle.trace.specs.declared.Ending.{Ending}
+use Rattle.trace.specs.declared.Ending.TheVariants.{End, Torn, Bad}
+use Rattle.std.specs.Prelude.{Result, Ok, Err}
+use Rattle.trace.specs.Trace.{part, frame, group_kind, group, group_of, found_at, frame_at, framed, record_of, record_by}
 use Rattle.trace.proofs.Finding.{Within, found_within, frame_whole, found_group}
 use Rattle.trace.proofs.Placing.{found_on, Closed, between, part_on, found_on_lem}
 use Rattle.lines.specs.declared.Reason.TheVariants as why
@@ -46,25 +49,22 @@ joins_joins ss rs u = simp append_assoc
 
 -- ---- what follows a list reads as it does alone
 
-closed_none : (f : Found) → Closed [] f
-closed_none (Record step next) = tt
-closed_none (Group count start next) = tt
-closed_none End = refl
-closed_none Torn = refl
-closed_none Bad = tt
+closed_none : (f : Result (Found Step) Ending) → Closed [] f
+closed_none (Ok f) = tt
+closed_none (Err End) = refl
+closed_none (Err Torn) = refl
+closed_none (Err Bad) = tt
 
 module _ (inner : List ℕ → Script) (p l : List ℕ) where
   abbrev Alone : ℕ → Type 0
   Alone at = rest inner (between p l []) (length p + at) ≡ rest inner l at
 
-  alone_by : (at : ℕ) (f : Found) → Within l at f → ((next : ℕ) → at < next → next ≤ length l → Alone next)
+  alone_by : (at : ℕ) (f : Result (Found Step) Ending) → Within l at f → ((next : ℕ) → at < next → next ≤ length l → Alone next)
       → read_by (found_on (length p) f) (between p l []) inner (rest inner (between p l [])) ≡ read_by f l inner (rest inner l)
-  alone_by at (Record step next) w k = ap (follows step) (k next w.0 w.1)
-  alone_by at (Group count start next) w k =
-      λ i. grouped count (inner (sym (part_on p l [] start next (omega (arith, w.2)) w.1) i)) (k next w.0 w.1 i)
-  alone_by at End w k = refl
-  alone_by at Torn w k = refl
-  alone_by at Bad w k = refl
+  alone_by at (Ok (Record step next)) w k = ap (follows step) (k next w.0 w.1)
+  alone_by at (Ok (Group g)) w k =
+      λ i. grouped g.count (inner (sym (part_on p l [] g.start g.next (omega (arith, w.2)) w.1) i)) (k g.next w.0 w.1 i)
+  alone_by at (Err e) w k = refl
 
   alone : Alone 0
   alone =
@@ -85,25 +85,25 @@ module _ (inner : List ℕ → Script) (p q : List ℕ) where
   abbrev Both : ℕ → Script → Type 0
   Both at u = is_end u.reason ≡ true → rest inner (between [] p q) (0 + at) ≡ joins u.steps (rest inner (p ++ q) (length p))
 
-  both_by : (at : ℕ) (f : Found) → found_at p at ≡ f → Within p at f → at ≤ length p
+  both_by : (at : ℕ) (f : Result (Found Step) Ending) → found_at p at ≡ f → Within p at f → at ≤ length p
       → ((next : ℕ) → at < next → next ≤ length p → Both next (rest inner p next)) → Both at (read_by f p inner (rest inner p))
-  both_by at (Record step next) e w h k i =
-      rest_found inner (p ++ q) (0 + at) (Record step (0 + next)) (found_on_lem [] p q at (Record step next) e tt)
+  both_by at (Ok (Record step next)) e w h k i =
+      rest_found inner (p ++ q) (0 + at) (Ok (Record step (0 + next))) (found_on_lem [] p q at (Ok (Record step next)) e tt)
       ∙ ap (follows step) (k next w.0 w.1 i)
-  both_by at (Group count start next) e w h k i =
-      let g = inner (part p start next) in
-      let s = both_end count g (rest inner p next) i in
-      rest_found inner (p ++ q) (0 + at) (Group count (0 + start) (0 + next)) (found_on_lem [] p q at (Group count start next) e tt)
-      ∙ ap (λ (b : List ℕ). grouped count (inner b) (rest inner (p ++ q) (0 + next))) (sym (part_on [] p q start next (omega (arith, w.2)) w.1))
-      ∙ sound_group count g _ s.0
-      ∙ ap (joins (repeated count g.steps)) (k next w.0 w.1 s.1)
-      ∙ joins_joins (repeated count g.steps) (rest inner p next).steps _
-      ∙ sym (ap (λ (u : Script). joins u.steps (rest inner (p ++ q) (length p))) (sound_group count g (rest inner p next) s.0))
-  both_by at End e w h k i =
+  both_by at (Ok (Group r)) e w h k i =
+      let g = inner (part p r.start r.next) in
+      let s = both_end r.count g (rest inner p r.next) i in
+      rest_found inner (p ++ q) (0 + at) (Ok (Group (group r.count (0 + r.start) (0 + r.next)))) (found_on_lem [] p q at (Ok (Group r)) e tt)
+      ∙ ap (λ (b : List ℕ). grouped r.count (inner b) (rest inner (p ++ q) (0 + r.next))) (sym (part_on [] p q r.start r.next (omega (arith, w.2)) w.1))
+      ∙ sound_group r.count g _ s.0
+      ∙ ap (joins (repeated r.count g.steps)) (k r.next w.0 w.1 s.1)
+      ∙ joins_joins (repeated r.count g.steps) (rest inner p r.next).steps _
+      ∙ sym (ap (λ (u : Script). joins u.steps (rest inner (p ++ q) (length p))) (sound_group r.count g (rest inner p r.next) s.0))
+  both_by at (Err End) e w h k i =
       let f : 0 + at ≡ length p = omega arith in
       ap (rest inner (p ++ q)) f
-  both_by at Torn e w h k i = absurd (false_true i)
-  both_by at Bad e w h k i = absurd (false_true i)
+  both_by at (Err Torn) e w h k i = absurd (false_true i)
+  both_by at (Err Bad) e w h k i = absurd (false_true i)
 
   both : is_end (rest inner p 0).reason ≡ true → rest inner (p ++ q) 0 ≡ joins (rest inner p 0).steps (rest inner q 0)
   both i =
@@ -120,16 +120,16 @@ module _ (inner more : List ℕ → Script) (same : (l : List ℕ) → is_end (i
   abbrev Same : ℕ → Script → Type 0
   Same at u = is_end u.reason ≡ true → rest more l at ≡ u
 
-  same_by : (at : ℕ) (f : Found) → found_at l at ≡ f → Within l at f → ((next : ℕ) → at < next → next ≤ length l → Same next (rest inner l next))
+  same_by : (at : ℕ) (f : Result (Found Step) Ending) → found_at l at ≡ f → Within l at f → ((next : ℕ) → at < next → next ≤ length l → Same next (rest inner l next))
       → Same at (read_by f l inner (rest inner l))
-  same_by at (Record step next) e w k i = rest_found more l at (Record step next) e ∙ ap (follows step) (k next w.0 w.1 i)
-  same_by at (Group count start next) e w k i =
-      let s = both_end count (inner (part l start next)) (rest inner l next) i in
-      rest_found more l at (Group count start next) e
-      ∙ (λ j. grouped count (same (part l start next) s.0 j) (k next w.0 w.1 s.1 j))
-  same_by at End e w k i = rest_found more l at End e
-  same_by at Torn e w k i = absurd (false_true i)
-  same_by at Bad e w k i = absurd (false_true i)
+  same_by at (Ok (Record step next)) e w k i = rest_found more l at (Ok (Record step next)) e ∙ ap (follows step) (k next w.0 w.1 i)
+  same_by at (Ok (Group g)) e w k i =
+      let s = both_end g.count (inner (part l g.start g.next)) (rest inner l g.next) i in
+      rest_found more l at (Ok (Group g)) e
+      ∙ (λ j. grouped g.count (same (part l g.start g.next) s.0 j) (k g.next w.0 w.1 s.1 j))
+  same_by at (Err End) e w k i = rest_found more l at (Err End) e
+  same_by at (Err Torn) e w k i = absurd (false_true i)
+  same_by at (Err Bad) e w k i = absurd (false_true i)
 
   same_rest : Same 0 (rest inner l 0)
   same_rest =
@@ -187,20 +187,20 @@ module _ (count : ℕ) (l q : List ℕ) where
     unfolding group_bytes number_by bytes_of
     kind_said = refl
 
-    found_listed : found_at listed 0 ≡ Group count 6 (length l + 6)
+    found_listed : found_at listed 0 ≡ Ok (Group (group count 6 (length l + 6)))
     unfolding group_of
     found_listed =
         let n : 0 + 2 + (length l + 4) ≡ length l + 6 = omega arith in
         let m : 0 + 2 + (length l + 4) ≤ length listed = omega (arith, length-append (group_bytes count l) q, length_group) in
         let z : count ≡ 0 → ⊥ = λ e. omega arith in
         let f = frame_whole listed 0 (length l + 4) length_said m (omega arith) group_kind kind_said in
-        sym (found_group listed 0 group_kind 4 (0 + 2 + (length l + 4)) f refl)
+        sym (found_group listed 0 (frame group_kind 4 (0 + 2 + (length l + 4))) f refl)
         ∙ rw (n, count_said, lt-leb (length l + 6 - 4) 2 (omega arith), ne_eqb count 0 z)
 
     module _ (inner : List ℕ → Script) (i : is_end (inner l).reason ≡ true) where
       read_group : rest inner listed 0 ≡ joins (repeated count (inner l).steps) (rest inner q 0)
       read_group =
-          rest_found inner listed 0 (Group count 6 (length l + 6)) found_listed
+          rest_found inner listed 0 (Ok (Group (group count 6 (length l + 6)))) found_listed
           ∙ (λ j. grouped count (inner (group_part j)) (rest_after inner (group_bytes count l) q (length l + 6) (sym length_group) j))
           ∙ sound_group count (inner l) (rest inner q 0) i
 

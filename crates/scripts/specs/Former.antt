@@ -1,19 +1,20 @@
 -- The rule from before there were groups (01, "Trace player"), and that nothing else moved. That the reader under it found what it finds now
 -- is in trace/specs/Former.
-use Rattle.std.specs.Prelude.{◌≡◌, ℕ, zero, suc, cond, List, [], ◌∷◌}
+use Rattle.std.specs.Prelude.{◌≡◌, ℕ, zero, suc, cond, List, [], ◌∷◌, Result, Ok, Err}
 use Rattle.trace.specs.declared.Found.{Found}
-use Rattle.trace.specs.declared.Found.TheVariants.{Record, Group, End, Torn, Bad}
+use Rattle.trace.specs.declared.Found.TheVariants.{Record, Group}
+use Rattle.trace.specs.declared.Ending.{Ending}
+use Rattle.steps.specs.declared.Step.{Step}
 use Rattle.trace.specs.Trace.{ended, found_at}
 use Rattle.lines.specs.declared.Reason.TheVariants as why
+use Rattle.lines.specs.Reasons.{reason_of}
 use Rattle.scripts.specs.Scripts.{record_limit, group_levels, Script, stops, follows, within, rest, limited, script_of}
 
 -- what was found at a place: a record's step, and then what the rest holds, or the reason to stop; at a group, what is given
-abbrev pub former_by : Found → (ℕ → Script) → Script → Script
-former_by (Record step next) after group = follows step (after next)
-former_by (Group count start next) after group = group
-former_by End after group = stops why.End
-former_by Torn after group = stops why.Torn
-former_by Bad after group = stops why.Bad
+abbrev pub former_by : Result (Found Step) Ending → (ℕ → Script) → Script → Script
+former_by (Ok (Record step next)) after group = follows step (after next)
+former_by (Ok (Group g)) after group = group
+former_by (Err e) after group = stops (reason_of e)
 
 -- From a place on, with n records left up to the limit. The end is tested first, then the limit, and then whether a record is torn or bad.
 -- For a group it is given what comes of it, by the records left and its place.

@@ -1,11 +1,13 @@
 -- 01, "Trace player", and 02, request 6: the steps that a trace holds, with its groups written out in full, and why the player stops.
-use Rattle.std.specs.Prelude.{◌≡◌, ℕ, zero, suc, ◌+◌, Bool, true, false, cond, List, [], ◌∷◌, ◌++◌, leb, ltb, length, take}
+use Rattle.std.specs.Prelude.{◌≡◌, ℕ, zero, suc, ◌+◌, Bool, true, false, cond, List, [], ◌∷◌, ◌++◌, leb, ltb, length, take, Result, Ok, Err}
 use Rattle.steps.specs.declared.Step.{Step}
 use Rattle.trace.specs.declared.Found.{Found}
-use Rattle.trace.specs.declared.Found.TheVariants.{Record, Group, End, Torn, Bad}
+use Rattle.trace.specs.declared.Found.TheVariants.{Record, Group}
+use Rattle.trace.specs.declared.Ending.{Ending}
 use Rattle.trace.specs.Trace.{part, found_at}
 use Rattle.lines.specs.declared.Reason.{Reason}
 use Rattle.lines.specs.declared.Reason.TheVariants as why
+use Rattle.lines.specs.Reasons.{reason_of}
 
 -- the records after which the player stops
 abbrev pub record_limit : ℕ
@@ -48,12 +50,10 @@ abbrev pub grouped : ℕ → Script → Script → Script
 grouped count h rest = cond (is_end h.reason) (joins (repeated count h.steps) rest) (stops why.Bad)
 
 -- what was found at a place of the list l: inner reads the list of a group, and rest what follows from a place on
-abbrev pub read_by : Found → List ℕ → (List ℕ → Script) → (ℕ → Script) → Script
-read_by (Record step next) l inner rest = follows step (rest next)
-read_by (Group count start next) l inner rest = grouped count (inner (part l start next)) (rest next)
-read_by End l inner rest = stops why.End
-read_by Torn l inner rest = stops why.Torn
-read_by Bad l inner rest = stops why.Bad
+abbrev pub read_by : Result (Found Step) Ending → List ℕ → (List ℕ → Script) → (ℕ → Script) → Script
+read_by (Ok (Record step next)) l inner rest = follows step (rest next)
+read_by (Ok (Group g)) l inner rest = grouped g.count (inner (part l g.start g.next)) (rest g.next)
+read_by (Err e) l inner rest = stops (reason_of e)
 
 -- From a place on. n bounds how many records and groups are looked for; a list has no more of them than bytes (`Unbounded` below).
 unfoldable pub read_from : (List ℕ → Script) → ℕ → List ℕ → ℕ → Script

@@ -6,7 +6,7 @@ ghost use Rattle.scripts.specs.Scripts.{is_end, within, Unbounded, ReadsOn, More
 ghost use Rattle.scripts.specs.Former.{UpToGroups, Groupless, SameAsFormerly, one_wake};
 ghost use Rattle.scripts.specs.Written.{Concatenates, WrittenOut, Writable, CountsWritten, EightLevels, EveryCountWritten, GroupsWritten};
 
-use trace::Passed;
+use trace::{Ending, Found, Group};
 
 // Whether a group's list is read to its end, where as many levels as depth are left, its own among them.
 pub fn is_sound(list: &[u8], depth: usize) -> bool
@@ -18,23 +18,17 @@ pub fn is_sound(list: &[u8], depth: usize) -> bool
     let mut place: usize = 0;
     loop {
         match trace::pass(list, place) {
-            Passed::Record { next } => {
+            Ok(Found::Record { next, .. }) => {
                 place = next;
             }
-            Passed::Group { start, next } => {
+            Ok(Found::Group(Group { start, next, .. })) => {
                 if !is_sound(&list[start..next], depth - 1) {
                     return false;
                 }
                 place = next;
             }
-            Passed::End => {
-                return true;
-            }
-            Passed::Torn => {
-                return false;
-            }
-            Passed::Bad => {
-                return false;
+            Err(ending) => {
+                return ending == Ending::End;
             }
         }
     }

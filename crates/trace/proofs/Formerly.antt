@@ -8,21 +8,22 @@ use borrow.Author.Tests.{eqb-true}
 use lib.Dec.{leb, eqb}
 use lib.ListN.{length, take, drop}
 use Rattle.fields.specs.Fields.{field_at}
-use Rattle.trace.specs.declared.Found.TheVariants.{Record, Group, End, Torn, Bad}
-use Rattle.trace.specs.declared.Frame.TheVariants as frame
-use Rattle.trace.specs.Trace.{length_at, kind_at, past_at, part, Kind, kinds, record_by, record_of, group_kind, group_of, ended, torn, short, frame_at, framed, found_at}
+use Rattle.trace.specs.declared.Found.TheVariants.{Record, Group}
+use Rattle.trace.specs.declared.Ending.TheVariants.{End, Torn, Bad}
+use Rattle.std.specs.Prelude.{Ok, Err}
+use Rattle.trace.specs.Trace.{frame, length_at, kind_at, past_at, part, Kind, kinds, record_by, record_of, group_kind, group, group_of, ended, torn, short, frame_at, framed, found_at}
 use Rattle.trace.specs.Former.{former_found, ungrouped, FoundAsFormerly}
 
 -- a group, and a kind that there isn't
-ungrouped_group : (l : List ℕ) (start next : ℕ) → ungrouped (group_of l start next) ≡ Bad
+ungrouped_group : (l : List ℕ) (start next : ℕ) → ungrouped (group_of l start next) ≡ Err Bad
 unfolding group_of
 ungrouped_group l start next = go (leb (next - start) 2 || eqb (field_at l start 2) 0)
   where
-    go : (b : Bool) → ungrouped (cond b Bad (Group (field_at l start 2) (start + 2) next)) ≡ Bad
+    go : (b : Bool) → ungrouped (cond b (Err Bad) (Ok (Group (group (field_at l start 2) (start + 2) next)))) ≡ Err Bad
     go true = refl
     go false = refl
 
-no_such_kind : (b : List ℕ) (next : ℕ) → record_of group_kind b next ≡ Bad
+no_such_kind : (b : List ℕ) (next : ℕ) → record_of group_kind b next ≡ Err Bad
 unfolding record_of record_by
 no_such_kind b next = refl
 
@@ -33,7 +34,7 @@ ungrouped_record [] number b next = refl
 ungrouped_record (k ∷ ks) number b next = go (eqb number k.number) (eqb (length b) k.size) (ungrouped_record ks number b next)
   where
     go : (s t : Bool) → ungrouped (record_by ks number b next) ≡ record_by ks number b next
-        → ungrouped (cond s (cond t (Record (k.step b) next) Bad) (record_by ks number b next)) ≡ cond s (cond t (Record (k.step b) next) Bad) (record_by ks number b next)
+        → ungrouped (cond s (cond t (Ok (Record (k.step b) next)) (Err Bad)) (record_by ks number b next)) ≡ cond s (cond t (Ok (Record (k.step b) next)) (Err Bad)) (record_by ks number b next)
     go true true e = refl
     go true false e = refl
     go false t e = e
@@ -53,13 +54,13 @@ found_as_formerly l at = go (ended l at) (torn l at) (short l at)
     body = let e : length_at l at - 2 ≡ past_at l at - (at + 4) = omega arith in ap (λ (n : ℕ). take n (drop (at + 4) l)) e
 
     read : record_of (kind_at l at) (take (length_at l at - 2) (drop (at + 4) l)) (past_at l at)
-        ≡ ungrouped (framed l (frame.Whole (kind_at l at) (at + 4) (past_at l at)))
+        ≡ ungrouped (framed l (Ok (frame (kind_at l at) (at + 4) (past_at l at))))
     read = ap (λ (b : List ℕ). record_of (kind_at l at) b (past_at l at)) body
         ∙ by_kind l (kind_at l at) (at + 4) (past_at l at) (eqb (kind_at l at) group_kind) refl
 
     go : (a b c : Bool)
-        → cond a End (cond b Torn (cond c Bad (record_of (kind_at l at) (take (length_at l at - 2) (drop (at + 4) l)) (past_at l at))))
-        ≡ ungrouped (framed l (cond a frame.End (cond b frame.Torn (cond c frame.Bad (frame.Whole (kind_at l at) (at + 4) (past_at l at))))))
+        → cond a (Err End) (cond b (Err Torn) (cond c (Err Bad) (record_of (kind_at l at) (take (length_at l at - 2) (drop (at + 4) l)) (past_at l at))))
+        ≡ ungrouped (framed l (cond a (Err End) (cond b (Err Torn) (cond c (Err Bad) (Ok (frame (kind_at l at) (at + 4) (past_at l at)))))))
     go true b c = refl
     go false true c = refl
     go false false true = refl

@@ -1,306 +1,214 @@
 // The records of a trace: what stands at a place, and a reader that keeps the trace and its place.
 #![tactic(auto)]
 
-ghost use Rattle.std.specs.Prelude.{◌≡◌, cond, length};
-ghost use Rattle.trace.specs.Trace.{registers_of, record_of, is_kind, group_of, frame_at, found_at, passed, KindsAgree, listed, found_kind, group_stands, is_group};
+ghost use Rattle.std.specs.Prelude.{◌≡◌, ◌≤◌, cond, length, IfOk};
+ghost use Rattle.trace.specs.Trace.{record_of, said, Sized, group_of, frame_at, found_at, passed, KindsAgree, listed, found_kind, group_stands, is_group};
 ghost use Rattle.trace.specs.Former.{FoundAsFormerly};
 
 use steps::Step;
-
-// The sizes of the kinds' bodies, where they have any.
-const REGISTERS_SIZE: usize = 28;
-
-const READ_SIZE: usize = 5;
-
-const WRITE_SIZE: usize = 9;
-
-const PORT_READ_SIZE: usize = 2;
-
-const PORT_WRITE_SIZE: usize = 3;
-
-const OPCODE_SIZE: usize = 10;
-
-const BOUNDARY_SIZE: usize = 17;
 
 // The kind of a group, and the size of its count.
 const GROUP: u16 = 16;
 
 const COUNT_SIZE: usize = 2;
 
-// What stands at a place: a record, as its step and the place past it, or a group, as its count, the place of its list and the place past it.
-#[derive(Clone, Copy)]
-pub enum Found {
-    Record {
-        step: Step,
-        next: usize,
-    },
-    Group {
-        count: u16,
-        start: usize,
-        next: usize,
-    },
+// Why nothing is found at a place.
+#[derive(Clone, Copy, PartialEq, Eq)]
+pub enum Ending {
     End,
     Torn,
     Bad,
 }
 
-// The same, with nothing of a record but the place past it, and of a group but the place of its list.
+// A group: how often its list is run, the place of the list and the place past it.
 #[derive(Clone, Copy)]
-pub enum Passed {
-    Record { next: usize },
-    Group { start: usize, next: usize },
-    End,
-    Torn,
-    Bad,
+pub struct Group {
+    pub count: u16,
+    pub start: usize,
+    pub next: usize,
+}
+
+// What stands at a place: a record, as what it says and the place past it, or a group.
+#[derive(Clone, Copy)]
+pub enum Found<S> {
+    Record { step: S, next: usize },
+    Group(Group),
 }
 
 // A record or a group as its length says it: its kind, the place of its body and the place past it.
 #[derive(Clone, Copy)]
-enum Frame {
-    Whole {
-        kind: u16,
-        start: usize,
-        next: usize,
-    },
-    End,
-    Torn,
-    Bad,
+struct Frame {
+    kind: u16,
+    start: usize,
+    next: usize,
 }
 
-fn registers(body: &[u8]) -> Step
-    ensures { result ≡ registers_of body.now }
-{
-    Step::Registers {
-        eip: fields::word(body, 0),
-        eflags: fields::word(body, 4),
-        cr0: fields::word(body, 8),
-        dr7: fields::word(body, 12),
-        selector: fields::half(body, 16),
-        descriptor: fields::long(body, 18),
-        level: fields::byte(body, 26),
-        writable: fields::byte(body, 27),
+// The kinds of the records.
+#[derive(Clone, Copy)]
+enum RecordKind {
+    Reset,
+    Registers,
+    Read,
+    Write,
+    PortRead,
+    PortWrite,
+    Opcode,
+    Boundary,
+    Halt,
+    Wake,
+}
+
+// The kind with a number, where its body has this size. One match tests both, so that what follows it knows the body's size.
+impl TryFrom<(u16, usize)> for RecordKind {
+    type Error = Ending;
+
+    ghost try_from_gives = { λ said r. Sized said.0 said.1 r };
+
+    #[tactic(auto, unfolding(crate::specs::Trace::is_kind, crate::specs::Trace::is_kind_by))]
+    fn try_from(said: (u16, usize)) -> Result<Self, Ending> {
+        match said {
+            (1, 0) => Ok(RecordKind::Reset),
+            (2, 28) => Ok(RecordKind::Registers),
+            (3, 5) => Ok(RecordKind::Read),
+            (4, 9) => Ok(RecordKind::Write),
+            (5, 2) => Ok(RecordKind::PortRead),
+            (6, 3) => Ok(RecordKind::PortWrite),
+            (7, 10) => Ok(RecordKind::Opcode),
+            (8, 17) => Ok(RecordKind::Boundary),
+            (9, 0) => Ok(RecordKind::Halt),
+            (10, 0) => Ok(RecordKind::Wake),
+            _ => Err(Ending::Bad),
+        }
+    }
+}
+
+impl RecordKind {
+    // The step that its body says.
+    fn step(self, body: &[u8]) -> Step
+        ensures { result ≡ (said self).step body.now }
+    {
+        match self {
+            RecordKind::Reset => Step::Reset,
+            RecordKind::Registers => Step::Registers {
+                eip: fields::number(body, 0),
+                eflags: fields::number(body, 4),
+                cr0: fields::number(body, 8),
+                dr7: fields::number(body, 12),
+                selector: fields::number(body, 16),
+                descriptor: fields::number(body, 18),
+                level: fields::number(body, 26),
+                writable: fields::number(body, 27),
+            },
+            RecordKind::Read => Step::Read {
+                width: fields::number(body, 0),
+                address: fields::number(body, 1),
+            },
+            RecordKind::Write => Step::Write {
+                width: fields::number(body, 0),
+                address: fields::number(body, 1),
+                value: fields::number(body, 5),
+            },
+            RecordKind::PortRead => Step::PortRead {
+                port: fields::number(body, 0),
+            },
+            RecordKind::PortWrite => Step::PortWrite {
+                port: fields::number(body, 0),
+                value: fields::number(body, 2),
+            },
+            RecordKind::Opcode => Step::Opcode {
+                opcode: fields::number(body, 0),
+                modrm: fields::number(body, 1),
+                address: fields::number(body, 2),
+                next: fields::number(body, 6),
+            },
+            RecordKind::Boundary => boundaries::boundary(body),
+            RecordKind::Halt => Step::Halt,
+            RecordKind::Wake => Step::Wake,
+        }
     }
 }
 
 // The record of a kind and a body; next is the place past it.
-fn decode(kind: u16, body: &[u8], next: usize) -> Found
+#[tactic(auto, using(crate::proofs::Finding::record_said, crate::proofs::Finding::record_none))]
+fn decode(kind: u16, body: &[u8], next: usize) -> Result<Found<Step>, Ending>
     ensures { result ≡ record_of kind body.now next }
 {
-    match kind {
-        1 => if body.len() == 0 {
-            Found::Record {
-                step: Step::Reset,
-                next,
-            }
-        } else {
-            Found::Bad
-        },
-        2 => if body.len() == REGISTERS_SIZE {
-            Found::Record {
-                step: registers(body),
-                next,
-            }
-        } else {
-            Found::Bad
-        },
-        3 => if body.len() == READ_SIZE {
-            Found::Record {
-                step: Step::Read {
-                    width: fields::byte(body, 0),
-                    address: fields::word(body, 1),
-                },
-                next,
-            }
-        } else {
-            Found::Bad
-        },
-        4 => if body.len() == WRITE_SIZE {
-            Found::Record {
-                step: Step::Write {
-                    width: fields::byte(body, 0),
-                    address: fields::word(body, 1),
-                    value: fields::word(body, 5),
-                },
-                next,
-            }
-        } else {
-            Found::Bad
-        },
-        5 => if body.len() == PORT_READ_SIZE {
-            Found::Record {
-                step: Step::PortRead {
-                    port: fields::half(body, 0),
-                },
-                next,
-            }
-        } else {
-            Found::Bad
-        },
-        6 => if body.len() == PORT_WRITE_SIZE {
-            Found::Record {
-                step: Step::PortWrite {
-                    port: fields::half(body, 0),
-                    value: fields::byte(body, 2),
-                },
-                next,
-            }
-        } else {
-            Found::Bad
-        },
-        7 => if body.len() == OPCODE_SIZE {
-            Found::Record {
-                step: Step::Opcode {
-                    opcode: fields::byte(body, 0),
-                    modrm: fields::byte(body, 1),
-                    address: fields::word(body, 2),
-                    next: fields::word(body, 6),
-                },
-                next,
-            }
-        } else {
-            Found::Bad
-        },
-        8 => if body.len() == BOUNDARY_SIZE {
-            Found::Record {
-                step: boundaries::boundary(body),
-                next,
-            }
-        } else {
-            Found::Bad
-        },
-        9 => if body.len() == 0 {
-            Found::Record {
-                step: Step::Halt,
-                next,
-            }
-        } else {
-            Found::Bad
-        },
-        10 => if body.len() == 0 {
-            Found::Record {
-                step: Step::Wake,
-                next,
-            }
-        } else {
-            Found::Bad
-        },
-        _ => Found::Bad,
-    }
-}
-
-// Whether a kind has this number, and its body this size.
-fn is_kind(kind: u16, size: usize) -> bool
-    ensures { result ≡ is_kind kind size }
-{
-    match kind {
-        1 => size == 0,
-        2 => size == REGISTERS_SIZE,
-        3 => size == READ_SIZE,
-        4 => size == WRITE_SIZE,
-        5 => size == PORT_READ_SIZE,
-        6 => size == PORT_WRITE_SIZE,
-        7 => size == OPCODE_SIZE,
-        8 => size == BOUNDARY_SIZE,
-        9 => size == 0,
-        10 => size == 0,
-        _ => false,
-    }
+    let kind = RecordKind::try_from((kind, body.len()))?;
+    Ok(Found::Record {
+        step: kind.step(body),
+        next,
+    })
 }
 
 // The group whose count and list lie from start to next.
-fn group(trace: &[u8], start: usize, next: usize) -> Found
+#[tactic(auto, unfolding(crate::specs::Trace::group_of))]
+fn group_in<S>(trace: &[u8], start: usize, next: usize) -> Result<Found<S>, Ending>
     ensures { result ≡ group_of trace.now start next }
 {
-    if next <= start {
-        return Found::Bad;
+    if next.saturating_sub(start) <= COUNT_SIZE {
+        return Err(Ending::Bad);
     }
-    if next - start <= COUNT_SIZE {
-        return Found::Bad;
-    }
-    let count = fields::half(trace, start);
+    let count: u16 = fields::number(trace, start);
     if count == 0 {
-        return Found::Bad;
+        return Err(Ending::Bad);
     }
-    Found::Group {
+    Ok(Found::Group(Group {
         count,
         start: start + COUNT_SIZE,
         next,
-    }
+    }))
 }
 
 // The frame at any place of the trace, also past its end.
-fn frame_at(trace: &[u8], at: usize) -> Frame
-    ensures { result ≡ frame_at trace.now at }
+#[tactic(auto, unfolding(crate::specs::Trace::frame_at))]
+fn frame_at(trace: &[u8], at: usize) -> Result<Frame, Ending>
+    ensures frame { result ≡ frame_at trace.now at }
+    ensures within { IfOk result (λ f. (f.start ≤ f.next) × (f.next ≤ length trace.now)) }
 {
     if trace.len() <= at {
-        return Frame::End;
+        return Err(Ending::End);
     }
     let left = trace.len() - at;
     if left < 2 {
-        return Frame::Torn;
+        return Err(Ending::Torn);
     }
-    let length = fields::half(trace, at) as usize;
+    let length = usize::from(fields::number::<u16>(trace, at));
     if left - 2 < length {
-        return Frame::Torn; // the length overshoots
+        return Err(Ending::Torn); // the length overshoots
     }
     if length < 2 {
-        return Frame::Bad;
+        return Err(Ending::Bad);
     }
-    Frame::Whole {
-        kind: fields::half(trace, at + 2),
+    Ok(Frame {
+        kind: fields::number(trace, at + 2),
         start: at + 4,
         next: at + 2 + length,
-    }
+    })
 }
 
 // What stands at any place of the trace, also past its end.
-fn read_record(trace: &[u8], at: usize) -> Found
+#[tactic(auto, using(crate::proofs::Finding::found_none, crate::proofs::Finding::found_group, crate::proofs::Finding::found_record))]
+fn read_record(trace: &[u8], at: usize) -> Result<Found<Step>, Ending>
     ensures { result ≡ found_at trace.now at }
 {
-    match frame_at(trace, at) {
-        Frame::Whole { kind, start, next } => {
-            if kind == GROUP {
-                return group(trace, start, next);
-            }
-            decode(kind, &trace[start..next], next)
-        }
-        Frame::End => Found::End,
-        Frame::Torn => Found::Torn,
-        Frame::Bad => Found::Bad,
+    let Frame { kind, start, next } = frame_at(trace, at)?;
+    if kind == GROUP {
+        return group_in(trace, start, next);
     }
-}
-
-// What was found, passed over.
-fn skip(found: Found) -> Passed
-    ensures { result ≡ passed found }
-{
-    match found {
-        Found::Record { step, next } => Passed::Record { next },
-        Found::Group { count, start, next } => Passed::Group { start, next },
-        Found::End => Passed::End,
-        Found::Torn => Passed::Torn,
-        Found::Bad => Passed::Bad,
-    }
+    decode(kind, &trace[start..next], next)
 }
 
 // What stands at a place, passed over: a record's step isn't made.
-pub fn pass(trace: &[u8], at: usize) -> Passed
+#[tactic(auto, using(crate::proofs::Finding::passed_none, crate::proofs::Finding::passed_group, crate::proofs::Finding::passed_bad))]
+pub fn pass(trace: &[u8], at: usize) -> Result<Found<()>, Ending>
     ensures { result ≡ passed (found_at trace.now at) }
 {
-    match frame_at(trace, at) {
-        Frame::Whole { kind, start, next } => {
-            if kind == GROUP {
-                return skip(group(trace, start, next));
-            }
-            if is_kind(kind, next - start) {
-                return Passed::Record { next };
-            }
-            Passed::Bad
-        }
-        Frame::End => Passed::End,
-        Frame::Torn => Passed::Torn,
-        Frame::Bad => Passed::Bad,
+    let Frame { kind, start, next } = frame_at(trace, at)?;
+    if kind == GROUP {
+        return group_in(trace, start, next);
     }
+    RecordKind::try_from((kind, next - start))?;
+    Ok(Found::Record { step: (), next })
 }
 
 // A reader keeps the trace that it was lent and its place. The functions over it only take it apart or put it together.
@@ -316,27 +224,27 @@ pub fn at_place<'a>(trace: &'a [u8], place: usize) -> Reader<'a>
     Reader { trace, place }
 }
 
-pub fn peek<'a>(r: Reader<'a>) -> Found
-    ensures { result ≡ found_at r.entry.trace.now r.entry.place }
-{
-    read_record(r.trace, r.place)
-}
+impl<'a> Reader<'a> {
+    // What stands at its place.
+    pub fn peek(self) -> Result<Found<Step>, Ending>
+        ensures { result ≡ found_at self.entry.trace.now self.entry.place }
+    {
+        read_record(self.trace, self.place)
+    }
 
-// The same reader at another place.
-pub fn moved<'a>(r: Reader<'a>, place: usize) -> Reader<'a>
-    ensures { (result.trace ≡ r.entry.trace) × (result.place ≡ place) }
-{
-    Reader {
-        trace: r.trace,
-        place,
+    // The same reader at another place.
+    pub fn moved(self, place: usize) -> Reader<'a>
+        ensures { (result.trace ≡ self.entry.trace) × (result.place ≡ place) }
+    {
+        Reader { place, ..self }
     }
 }
 
 // The record at a place, by way of a reader, with plain parameters.
-pub fn record_at(trace: &[u8], place: usize) -> Found
+pub fn record_at(trace: &[u8], place: usize) -> Result<Found<Step>, Ending>
     ensures { result ≡ found_at trace.now place }
 {
-    peek(at_place(trace, place))
+    at_place(trace, place).peek()
 }
 
 // No code of the model: it holds the gate to the kinds' numbers, and to what the reader found before there were groups.
@@ -346,14 +254,14 @@ fn laws()
 {}
 
 // Not called, for what it ensures alone: of every number and every body, records have the kinds that 01 lists.
-fn has_listed_kind(kind: u16, body: &[u8], next: usize) -> Found
+fn has_listed_kind(kind: u16, body: &[u8], next: usize) -> Result<Found<Step>, Ending>
     ensures { found_kind result ≡ cond (listed kind (length body.now)) kind 0 }
 {
     decode(kind, body, next)
 }
 
 // Nor this one: groups are found where they stand, and nowhere else.
-fn finds_groups(trace: &[u8], place: usize) -> Found
+fn finds_groups(trace: &[u8], place: usize) -> Result<Found<Step>, Ending>
     ensures { is_group result ≡ group_stands trace.now place }
 {
     record_at(trace, place)

@@ -1,31 +1,12 @@
-use lib.ListN.{length-set}
-use native.Mathlib.Omega.{arith}
-use Rattle.lines.proofs.Storing.{one_stored, two_stored, three_stored}
+use Rattle.std.proofs.Common.{arith}
+use Rattle.lines.proofs.Digits.{one_digit, two_digits, three_digits}
 use Rattle.lines.proofs.put_decimal.Goals as goal
 
-pub returns-then-n-lt10 : goal.returns-then-n-lt10
-returns-then-n-lt10 c = record {
-  stored = one_stored _ _ _ _ 0 0 (omega arith) c.if-n-lt10.true c.digit.ensures;
-  near = omega arith;
-}
+pub returns-in-0-to-9-clause-stored : goal.returns-in-0-to-9-clause-stored
+returns-in-0-to-9-clause-stored c = rw (one_digit c.args.n (omega arith), ← c.digit.ensures) c.put.ensures
 
-pub bounds-out-at-then-n-lt100-2 : goal.bounds-out-at-then-n-lt100-2
-bounds-out-at-then-n-lt100-2 c = rw length-set (omega arith)
+pub returns-in-10-to-99-clause-stored : goal.returns-in-10-to-99-clause-stored
+returns-in-10-to-99-clause-stored c = rw (two_digits c.args.n (omega arith) (omega arith), ← c.digit-in-10-to-99.ensures, ← c.digit-in-10-to-99-2.ensures) c.put-in-10-to-99.ensures
 
-pub returns-then-n-lt100 : goal.returns-then-n-lt100
-returns-then-n-lt100 c = record {
-  stored = two_stored _ _ _ _ _ 0 (omega arith) c.if-n-lt10.false c.if-n-lt100.true c.digit-then-n-lt100.ensures c.digit-then-n-lt100-2.ensures;
-  near = omega arith;
-}
-
-pub bounds-out-at-3 : goal.bounds-out-at-3
-bounds-out-at-3 c = rw length-set (omega arith)
-
-pub bounds-out-at-4 : goal.bounds-out-at-4
-bounds-out-at-4 c = rw (length-set, length-set) (omega arith)
-
-pub returns : goal.returns
-returns c = record {
-  stored = three_stored _ _ _ _ _ _ (omega arith) c.if-n-lt100.false (omega arith) c.digit-2.ensures c.digit-3.ensures c.digit-4.ensures;
-  near = omega arith;
-}
+pub returns-in_default-clause-stored : goal.returns-in_default-clause-stored
+returns-in_default-clause-stored c = rw (three_digits c.args.n (omega arith) (omega arith), ← c.digit-in_default.ensures, ← c.digit-in_default-2.ensures, ← c.digit-in_default-3.ensures) c.put-in_default.ensures

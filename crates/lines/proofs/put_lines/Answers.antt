@@ -1,25 +1,10 @@
-use mathlib.Core.Path.{◌≡◌, refl, ◌∙◌}
-use native.Mathlib.Omega.{arith}
+use Rattle.std.proofs.Common.{arith}
 use Rattle.lines.proofs.Storing.{no_line, line_turn}
-use borrow.Author.Rules.{rules}
 use Rattle.lines.proofs.put_lines.Goals as goal
 
-pub loop-i-init : goal.loop-i-init
-loop-i-init c = (search rules, search rules, refl, no_line _)
+pub loop-event-init : goal.loop-event-init
+loop-event-init c = (omega arith, no_line _)
 
-pub loop-i-preserved : goal.loop-i-preserved
-loop-i-preserved c = let p = c.put_line-at in
-    let l = c.loop-i in
-    let a = c.args in (
-      search rules,
-      omega arith,
-      c.put_line-at.auto.out ∙ l.invariant.2,
-      line_turn a.events.now l.i (omega arith) l.invariant.3 c.put_line-at.ensures.stored,
-    )
-
-pub returns : goal.returns
-returns c = let l = c.loop-i in
-    let e : l.i ≡ c.args.count = omega arith in record {
-      stored = rw (← e) l.invariant.3;
-      near = rw (← e) l.invariant.1;
-    }
+pub loop-event-preserved : goal.loop-event-preserved
+loop-event-preserved c =
+    (omega arith, line_turn _ _ c.loop-event-test.true c.loop-event.invariant.1 c.put_line-at.ensures.stored)

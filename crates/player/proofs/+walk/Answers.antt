@@ -1,63 +1,58 @@
-use Rattle.std.proofs.Common.{refl, arith}
+use Rattle.std.proofs.Common.{◌≡◌, refl, sym, ◌∙◌, arith, rules}
+use Rattle.lines.specs.declared.Reason.TheVariants as why
+use Rattle.scripts.proofs.Reading.{false_true}
 use Rattle.player.proofs.Walking.{walking_all, run_out, group_room, group_bounds, run_unsound, run_fit, run_group, run_further, run_cut, from_start}
 use Rattle.player.proofs.+walk.Goals as goal
 
-pub loop-rounds-init : goal.loop-rounds-init
-loop-rounds-init t c =
+pub loop-group-init : goal.loop-group-init
+loop-group-init t c =
     (refl, refl, walking_all _ _ _ _ c.requires.fit c.requires.done_le_record_limit _ _ record { state_is = refl; reason_is = refl })
 
 -- a group's list is within the list, and not empty
-pub slice_bounds-is_admitted-count : goal.slice_bounds-is_admitted-count
-slice_bounds-is_admitted-count t c = omega (arith, group_bounds c.loop-rounds.invariant.2 c.anew.ensures c.run-ran.ensures c.in-Group.is)
+pub slice_bounds-inside-count : goal.slice_bounds-inside-count
+slice_bounds-inside-count t c = omega (arith, group_bounds c.loop-group.invariant.2 c.anew.ensures c.run-ran.ensures c.in-Ok.is)
 
-pub slice_bounds-is_admitted-start : goal.slice_bounds-is_admitted-start
-slice_bounds-is_admitted-start t c = omega (arith, group_bounds c.loop-rounds.invariant.2 c.anew.ensures c.run-ran.ensures c.in-Group.is)
+pub slice_bounds-inside-start : goal.slice_bounds-inside-start
+slice_bounds-inside-start t c = slice_bounds-inside-count t c
 
-pub slice_bounds-is_admitted-end : goal.slice_bounds-is_admitted-end
-slice_bounds-is_admitted-end t c = omega (arith, group_bounds c.loop-rounds.invariant.2 c.anew.ensures c.run-ran.ensures c.in-Group.is)
-
-pub slice_bounds-walk-count : goal.slice_bounds-walk-count
-slice_bounds-walk-count t c = omega (arith, group_bounds c.loop-rounds.invariant.2 c.anew.ensures c.run-ran.ensures c.in-Group.is)
-
-pub slice_bounds-walk-start : goal.slice_bounds-walk-start
-slice_bounds-walk-start t c = omega (arith, group_bounds c.loop-rounds.invariant.2 c.anew.ensures c.run-ran.ensures c.in-Group.is)
-
-pub slice_bounds-walk-end : goal.slice_bounds-walk-end
-slice_bounds-walk-end t c = omega (arith, group_bounds c.loop-rounds.invariant.2 c.anew.ensures c.run-ran.ensures c.in-Group.is)
+pub slice_bounds-inside-end : goal.slice_bounds-inside-end
+slice_bounds-inside-end t c = omega (arith, group_bounds c.loop-group.invariant.2 c.anew.ensures c.run-ran.ensures c.in-Ok.is)
 
 pub walk-inner-requires : goal.walk-inner-requires
 walk-inner-requires t c =
-    let w = c.loop-rounds.invariant.2 in (
+    let w = c.loop-group.invariant.2 in (
       omega (arith, w.stands.fit.deep, c.decreases),
       (
-        run_fit w c.anew.ensures c.run-ran.ensures c.in-Group.is c.is_admitted.ensures c.if-not-is_admitted.false,
-        omega (arith, group_room w c.anew.ensures c.run-ran.ensures c.in-Group.is),
+        run_fit w c.anew.ensures c.run-ran.ensures c.in-Ok.is c.is_admitted.ensures c.if-not-is_admitted.false,
+        omega (arith, group_room w c.anew.ensures c.run-ran.ensures c.in-Ok.is),
       ),
     )
 
-pub loop-rounds-smaller : goal.loop-rounds-smaller
-loop-rounds-smaller t c =
-    let w = c.loop-rounds.invariant.2 in
+pub loop-group-smaller : goal.loop-group-smaller
+loop-group-smaller t c =
+    let w = c.loop-group.invariant.2 in
+    let e : c.walk-inner.result.reason ≡ why.End = search rules in
     omega (
       arith,
-      run_further w c.anew.ensures c.run-ran.ensures c.in-Group.is c.is_admitted.ensures c.if-not-is_admitted.false c.anew-in-Group.ensures c.walk-inner.ensures c.in-End.is,
-      (run_group w c.anew.ensures c.run-ran.ensures c.in-Group.is c.is_admitted.ensures c.if-not-is_admitted.false c.anew-in-Group.ensures c.walk-inner.ensures c.in-End.is).room,
+      run_further w c.anew.ensures c.run-ran.ensures c.in-Ok.is c.is_admitted.ensures c.if-not-is_admitted.false c.anew-in-loop-group.ensures c.walk-inner.ensures e,
+      (run_group w c.anew.ensures c.run-ran.ensures c.in-Ok.is c.is_admitted.ensures c.if-not-is_admitted.false c.anew-in-loop-group.ensures c.walk-inner.ensures e).room,
     )
 
-pub loop-rounds-preserved : goal.loop-rounds-preserved
-loop-rounds-preserved t c = (
-  omega arith,
-  omega arith,
-  run_group c.loop-rounds.invariant.2 c.anew.ensures c.run-ran.ensures c.in-Group.is c.is_admitted.ensures c.if-not-is_admitted.false c.anew-in-Group.ensures c.walk-inner.ensures c.in-End.is,
-)
+pub loop-group-preserved : goal.loop-group-preserved
+loop-group-preserved t c =
+    let e : c.walk-inner.result.reason ≡ why.End = search rules in (
+      omega arith,
+      omega arith,
+      run_group c.loop-group.invariant.2 c.anew.ensures c.run-ran.ensures c.in-Ok.is c.is_admitted.ensures c.if-not-is_admitted.false c.anew-in-loop-group.ensures c.walk-inner.ensures e,
+    )
+
+pub returns-in-Err : goal.returns-in-Err
+returns-in-Err t c = from_start (run_out c.loop-group.invariant.2 c.anew.ensures c.run-ran.ensures c.in-Err.is)
 
 pub returns-then-not-is_admitted : goal.returns-then-not-is_admitted
 returns-then-not-is_admitted t c =
-    from_start (run_unsound c.loop-rounds.invariant.2 c.anew.ensures c.run-ran.ensures c.in-Group.is c.is_admitted.ensures c.if-not-is_admitted.true)
+    from_start (run_unsound c.loop-group.invariant.2 c.anew.ensures c.run-ran.ensures c.in-Ok.is c.is_admitted.ensures c.if-not-is_admitted.true)
 
-pub returns-in_default : goal.returns-in_default
-returns-in_default t c =
-    from_start (run_cut c.loop-rounds.invariant.2 c.anew.ensures c.run-ran.ensures c.in-Group.is c.is_admitted.ensures c.if-not-is_admitted.false c.anew-in-Group.ensures c.walk-inner.ensures c.in_default.not-End)
-
-pub returns-in-Leave : goal.returns-in-Leave
-returns-in-Leave t c = from_start (run_out c.loop-rounds.invariant.2 c.anew.ensures c.run-ran.ensures c.in-Leave.is)
+pub returns-then-ne : goal.returns-then-ne
+returns-then-ne t c =
+    from_start (run_cut c.loop-group.invariant.2 c.anew.ensures c.run-ran.ensures c.in-Ok.is c.is_admitted.ensures c.if-not-is_admitted.false c.anew-in-loop-group.ensures c.walk-inner.ensures (λ e. false_true (rw e at (sym c.ne.ensures ∙ c.if-ne.true))))

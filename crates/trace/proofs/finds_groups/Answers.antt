@@ -8,9 +8,10 @@ use lib.Dec.{eqb, leb, ltb}
 use lib.ListN.{length}
 use borrow.Author.Tests.{leb-true, leb-false, ltb-true, ltb-false, le-leb, lt-leb}
 use Rattle.fields.specs.Fields.{field_at}
-use Rattle.trace.specs.declared.Found.TheVariants.{Record, Group, Bad}
-use Rattle.trace.specs.declared.Frame.TheVariants as frame
-use Rattle.trace.specs.Trace.{Kind, kinds, record_by, record_of, group_of, kind_at, past_at, part, ended, short, frame_at, framed, found_at, group_stands, is_group}
+use Rattle.trace.specs.declared.Found.TheVariants.{Record, Group}
+use Rattle.trace.specs.declared.Ending.TheVariants.{End, Torn, Bad}
+use Rattle.std.specs.Prelude.{Ok, Err}
+use Rattle.trace.specs.Trace.{Kind, kinds, record_by, record_of, frame, group, group_of, kind_at, past_at, part, ended, short, frame_at, framed, found_at, group_stands, is_group}
 use Rattle.trace.proofs.finds_groups.Goals as goal
 
 no_record : (ks : List Kind) (number next : ℕ) (b : List ℕ) → is_group (record_by ks number b next) ≡ false
@@ -19,7 +20,7 @@ no_record [] number next b = refl
 no_record (k ∷ ks) number next b = go (eqb number k.number) (eqb (length b) k.size) (no_record ks number next b)
   where
     go : (t u : Bool) → is_group (record_by ks number b next) ≡ false
-        → is_group (cond t (cond u (Record (k.step b) next) Bad) (record_by ks number b next)) ≡ false
+        → is_group (cond t (cond u (Ok (Record (k.step b) next)) (Err Bad)) (record_by ks number b next)) ≡ false
     go true true rest = refl
     go true false rest = refl
     go false u rest = rest
@@ -39,12 +40,12 @@ module _ (l : List ℕ) (at : ℕ) where
       by true e = lt-leb (past_at l at - (at + 4)) 2 (omega (arith, leb-true 5 n e))
       by false e = le-leb (past_at l at - (at + 4)) 2 (omega (arith, leb-false 5 n e))
 
-  whole : is_group (framed l (frame.Whole (kind_at l at) (at + 4) (past_at l at))) ≡ stands
+  whole : is_group (framed l (Ok (frame (kind_at l at) (at + 4) (past_at l at)))) ≡ stands
   unfolding framed group_of record_of is_group
   whole = rw small (go (leb 5 n) (eqb (kind_at l at) 16) (eqb (field_at l (at + 4) 2) 0))
     where
       go : (p q z : Bool)
-          → is_group (cond q (cond (not p || z) Bad (Group (field_at l (at + 4) 2) (at + 4 + 2) (past_at l at))) (record_of (kind_at l at) (part l (at + 4) (past_at l at)) (past_at l at)))
+          → is_group (cond q (cond (not p || z) (Err Bad) (Ok (Group (group (field_at l (at + 4) 2) (at + 4 + 2) (past_at l at))))) (record_of (kind_at l at) (part l (at + 4) (past_at l at)) (past_at l at)))
           ≡ (p && q && not z)
       go true true true = refl
       go true true false = refl
@@ -60,7 +61,7 @@ module _ (l : List ℕ) (at : ℕ) where
   found = by (ended l at) (ltb (length l) (at + 2)) (ltb (length l) (past_at l at)) (short l at) refl refl refl refl
     where
       by : (e t u s : Bool) → ended l at ≡ e → ltb (length l) (at + 2) ≡ t → ltb (length l) (past_at l at) ≡ u → short l at ≡ s
-          → is_group (framed l (cond e frame.End (cond (t || u) frame.Torn (cond s frame.Bad (frame.Whole (kind_at l at) (at + 4) (past_at l at))))))
+          → is_group (framed l (cond e (Err End) (cond (t || u) (Err Torn) (cond s (Err Bad) (Ok (frame (kind_at l at) (at + 4) (past_at l at)))))))
           ≡ (leb (at + 2 + n) (length l) && stands)
       by true t u s e f g h = beyond (omega (arith, leb-true (length l) at e))
       by false true u s e f g h = beyond (omega (arith, ltb-true (length l) (at + 2) f))
