@@ -27,6 +27,7 @@ fn print(
 }
 
 // Plays a trace from a reader and prints its text, which is left in the lent buffer. The result is the text's size.
+#[tactic(auto, using(crate::specs::Programs::nothing))]
 pub fn show<R: Read>(
     rt: &impl Print,
     edition: Edition,
@@ -41,13 +42,13 @@ pub fn show<R: Read>(
     print(rt, edition, &input[..n], out)
 }
 
-// Puts an argument at the buffer's start: its size, or nothing where there is no such argument. One that is longer than the buffer counts as empty.
-fn argument(rt: &impl Env, i: usize, buf: &mut [u8]) -> Option<usize>
-    ensures { IfSome result (λ n. n ≤ length buf.new) }
+// An argument, in the buffer that is lent for it; none where there is no such argument. One that is longer than the buffer counts as empty.
+fn argument<'a>(rt: &impl Env, i: usize, buf: &'a mut [u8]) -> Option<&'a [u8]>
+    ensures { IfSome result (λ text. length text.now ≤ length buf.old) }
 {
     match rt.arg(i, buf) {
-        Ok(n) => Some(n),
-        Err(FillError::TooLong) => Some(0),
+        Ok(n) => Some(&buf[..n]),
+        Err(FillError::TooLong) => Some(&[]),
         Err(FillError::NotPresent) => None,
     }
 }
@@ -94,6 +95,7 @@ fn open_case<R: Files + Print + Eprint>(rt: &R, name: &[u8]) -> io::Result<Optio
     }
 }
 
+#[tactic(auto, using(crate::specs::Programs::none, crate::specs::Programs::one, crate::proofs::Showing::shown_at_most))]
 fn show_case<R: Files + Print + Eprint>(
     rt: &R,
     edition: Edition,
@@ -110,6 +112,7 @@ fn show_case<R: Files + Print + Eprint>(
 }
 
 // For each trace file that an argument names, prints its name and then its text.
+#[tactic(auto, using(crate::specs::Programs::none, crate::specs::Programs::then))]
 pub fn show_cases<R: Env + Files + Print + Eprint>(
     rt: &R,
     edition: Edition,
@@ -119,10 +122,10 @@ pub fn show_cases<R: Env + Files + Print + Eprint>(
 {
     for i in 1..usize::MAX {
         let mut name = [0u8; 4096]; // the longest path, and one byte more
-        let Some(n) = argument(rt, i, &mut name) else {
+        let Some(name) = argument(rt, i, &mut name) else {
             break;
         };
-        show_case(rt, edition, &name[..n], out)?;
+        show_case(rt, edition, name, out)?;
     }
     Ok(())
 }

@@ -8,4 +8,4 @@ within : (n k size : ℕ) → k ≡ min size n → k ≤ length (replicate {A = 
 within n k size e = let l : length (replicate {A = ℕ} n 0) ≡ n = length-replicate n 0 in omega arith
 
 pub slice_bounds-main-end : goal.slice_bounds-main-end
-slice_bounds-main-end g c = within 1048577 _ _ c.at_most-m.ensures
+slice_bounds-main-end g c = within 1048577 _ _ c.min-m.ensures
