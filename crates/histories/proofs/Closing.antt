@@ -7,13 +7,9 @@ use borrow.Author.Tests.{ne_eqb, lt-leb}
 use Rattle.slots.specs.Area.{slot_count, first_free, ceiling_before, ceiling}
 use Rattle.slots.proofs.Holding.{Holds, formed, first_free_lem, ceiling_is}
 use Rattle.journal.specs.declared.Counter.{Counter}
-use Rattle.journal.specs.declared.Started.{Started}
-use Rattle.journal.specs.declared.Handed.{Handed}
-use Rattle.journal.specs.declared.Handed.TheVariants as hand
-use Rattle.journal.specs.declared.Raised.{Raised}
-use Rattle.journal.specs.declared.Raised.TheVariants as rise
+use Rattle.std.specs.Prelude.{Ok, Err}
 use Rattle.journal.specs.Stores.{store_count}
-use Rattle.journal.specs.Answers.{restart_of, next_of, refuses_raise, Left, left, raise_of, raise_part_of}
+use Rattle.journal.specs.Answers.{Started, Handed, Raised, restart_of, next_of, refuses_raise, Left, left, raise_of, raise_part_of}
 use Rattle.recovery.specs.Cuts.{Finds, found_after}
 use Rattle.histories.specs.Histories.{off, on, IsU64, fresh, restart, next, raise, part}
 use Rattle.histories.specs.Closed.{RestartGoesOn, RestartKept, NextGoesOn, RaiseGoesOn, RaiseKept, NoneTwice, RestartHeld, NextIsAbove, FoundAround, RaiseHeld, FirstRaise}
@@ -27,8 +23,8 @@ pub restart_kept : (a : List ℕ) (s : Started) → s ≡ restart_of a → Resta
 restart_kept a s e ns p = e ∙ p.restarts
 
 pub next_goes_on : (a : List ℕ) (c : Counter) (x : Handed) → x ≡ next_of c a → NextGoesOn a c x
-next_goes_on a c (hand.Number n c') e ns h = next h (sym e)
-next_goes_on a c hand.Refused e ns h = tt
+next_goes_on a c (Ok (n, c')) e ns h = next h (sym e)
+next_goes_on a c (Err x) e ns h = tt
 
 module _ (a b : List ℕ) (x : Raised) (v : ℕ) (w : IsU64 v) where
   pub raise_goes_on : left x b ≡ raise_of a v → RaiseGoesOn a b
@@ -53,11 +49,11 @@ pub restart_held : (a : List ℕ) (s : Started) → s ≡ restart_of a → Resta
 restart_held a s e r ns h = e ∙ (every_history a r ns h).restarts
 
 pub next_is_above : (a : List ℕ) (c : Counter) (x : Handed) → x ≡ next_of c a → NextIsAbove a c x
-next_is_above a c (hand.Number n c') e ns h = last_above ns n c' (every_history a (on c') (ns ++ (n ∷ [])) (next h (sym e))).rises
-next_is_above a c hand.Refused e ns h = tt
+next_is_above a c (Ok (n, c')) e ns h = last_above ns n c' (every_history a (on c') (ns ++ (n ∷ [])) (next h (sym e))).rises
+next_is_above a c (Err x) e ns h = tt
 
 -- an area with no ceiling accepts a raise to every value above 0
-first_done : (a : List ℕ) (v : ℕ) → Holds a 0 → 0 < v → (raise_of a v).answer ≡ rise.Done
+first_done : (a : List ℕ) (v : ℕ) → Holds a 0 → 0 < v → (raise_of a v).answer ≡ Ok tt
 unfolding raise_of refuses_raise ceiling_before
 first_done a v h l =
     let c : ceiling a ≡ 0 = ceiling_is h in
@@ -67,7 +63,7 @@ first_done a v h l =
 module _ (a b : List ℕ) (x : Raised) (v : ℕ) (w : IsU64 v) (after : Started) (f : after ≡ restart_of b) where
   pub first_raise : left x b ≡ raise_of a v → FirstRaise a v x after
   first_raise g z l =
-      let d : x ≡ rise.Done = ap (λ (k : Left). k.answer) g ∙ first_done a v (rw z fresh_holds) l in
+      let d : x ≡ Ok tt = ap (λ (k : Left). k.answer) g ∙ first_done a v (rw z fresh_holds) l in
       let p = ((every_history a off [] (rw z fresh)).raises v w).whole in
       (d, f ∙ rw (ap (λ (k : Left). k.area) g) (rw (sym (ap (λ (k : Left). k.answer) g) ∙ d) at p))
 

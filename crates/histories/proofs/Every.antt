@@ -1,5 +1,5 @@
 -- Every history keeps its promise. Assumes nothing.
-use mathlib.Core.Path.{◌≡◌, refl, sym, ap, ◌∙◌}
+use mathlib.Core.Path.{◌≡◌, refl, sym, ap}
 use mathlib.Core.Bool.{Bool, true, false, cond, ◌&&◌}
 use mathlib.Core.List.{List, [], ◌∷◌, ◌++◌}
 use Prim.Native.Nat.{ℕ, zero, suc, ◌+◌, ◌*◌, ◌<◌, ◌≤◌}
@@ -7,17 +7,14 @@ use native.Mathlib.Omega.{arith}
 use borrow.Author.Tests.{ltb-true}
 use lib.Dec.{ltb}
 use lib.ListN.{length, get_or, replicate}
+use Rattle.std.proofs.lemmas.Bool.{and_parts}
 use Rattle.fields.specs.Fields.{number_by, field_at}
 use Rattle.slots.specs.Area.{area_size, well_formed, ceiling}
 use Rattle.slots.proofs.Holding.{Holds, formed}
-use Rattle.slots.proofs.Searching.{false_true, and_right}
 use Rattle.journal.specs.declared.Counter.{Counter}
-use Rattle.journal.specs.declared.Started.{Started}
-use Rattle.journal.specs.declared.Started.TheVariants as start
-use Rattle.journal.specs.declared.Handed.{Handed}
-use Rattle.journal.specs.declared.Handed.TheVariants as hand
+use Rattle.std.specs.Prelude.{Ok, Err}
 use Rattle.journal.specs.Stores.{store_count}
-use Rattle.journal.specs.Answers.{counter, restart_of, next_of}
+use Rattle.journal.specs.Answers.{Handed, counter, refused, restart_of, next_of}
 use Rattle.journal.proofs.Answering.{part_whole}
 use Rattle.recovery.specs.Cuts.{Finds}
 use Rattle.recovery.proofs.Raising.{Kept, part_keeps, raise_survives}
@@ -30,39 +27,23 @@ pub ready : (a : List ℕ) → well_formed a ≡ true → Finds a (ceiling a)
 unfolding restart_of
 ready a w = rw w
 
-abbrev begins_at : Started → ℕ
-begins_at (start.Ready c) = c.next
-begins_at start.Refused = 0
-
 record Handing (a : List ℕ) (c : Counter) (n : ℕ) (c' : Counter) : Type 0 where
   pub number : n ≡ c.next
   pub then : c'.next ≡ c.next + 1
   pub low : c.next < ceiling a
 
-abbrev is_number : Handed → Bool
-is_number (hand.Number n c) = true
-is_number hand.Refused = false
-
-abbrev number_in : Handed → ℕ
-number_in (hand.Number n c) = n
-number_in hand.Refused = 0
-
-abbrev then_in : Handed → ℕ
-then_in (hand.Number n c) = c.next
-then_in hand.Refused = 0
-
-hands : (a : List ℕ) (c : Counter) (n : ℕ) (c' : Counter) → next_of c a ≡ hand.Number n c' → Handing a c n c'
+hands : (a : List ℕ) (c : Counter) (n : ℕ) (c' : Counter) → next_of c a ≡ Ok (n, c') → Handing a c n c'
 unfolding next_of
 hands a c n c' = by (well_formed a && ltb c.next (ceiling a)) refl
   where
     by : (b : Bool) → well_formed a && ltb c.next (ceiling a) ≡ b
-        → cond b (hand.Number c.next (counter (c.next + 1))) hand.Refused ≡ hand.Number n c' → Handing a c n c'
-    by true q e = record {
-      number = sym (ap number_in e);
-      then = sym (ap then_in e);
-      low = ltb-true c.next (ceiling a) (and_right (well_formed a) (ltb c.next (ceiling a)) q);
+        → cond {A = Handed} b (Ok (c.next, counter (c.next + 1))) (Err refused) ≡ Ok (n, c') → Handing a c n c'
+    by true q e = let p : ◌≡◌ {A = ℕ × Counter} (c.next, counter (c.next + 1)) (n, c') = cc in record {
+      number = sym (ap (λ (x : ℕ × Counter). x.0) p);
+      then = sym (ap (λ (x : ℕ × Counter). x.1.next) p);
+      low = ltb-true c.next (ceiling a) (and_parts (well_formed a) (ltb c.next (ceiling a)) q).1;
     }
-    by false q e = false_true (ap is_number e)
+    by false q e = cc
 
 -- ---- what a history keeps
 
@@ -112,7 +93,8 @@ history_good : {a : List ℕ} {r : Run} {ns : List ℕ} → History a r ns → G
 history_good fresh = record { formed = formed fresh_holds; low = omega arith; below = λ i l. absurd (omega arith); rises = λ i j l o. absurd (omega arith) }
 history_good (restart {a} {r} {ns} {c} h e) =
     let g = history_good h in
-    let b : c.next ≡ ceiling a = sym (ap begins_at e) ∙ ap begins_at (ready a g.formed) in
+    let f : c ≡ counter (ceiling a) = let r = ready a g.formed in cc in
+    let b : c.next ≡ ceiling a = ap (λ (x : Counter). x.next) f in
     record {
       formed = g.formed;
       low = omega arith;

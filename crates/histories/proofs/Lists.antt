@@ -8,7 +8,7 @@ use borrow.Author.Tests.{ltb-true, ltb-false}
 use lib.Dec.{ltb}
 use lib.ListN.{length, get_or, length-append}
 use Rattle.journal.specs.declared.Counter.{Counter}
-use Rattle.journal.specs.declared.Handed.TheVariants as hand
+use Rattle.std.specs.Prelude.{Ok}
 use Rattle.histories.specs.Histories.{StrictlyRising}
 use Rattle.histories.specs.Closed.{NumberIsAbove}
 
@@ -53,5 +53,5 @@ rises_last ns n f r i j l o = by (ltb j (length ns)) refl
         rw (last_front ns n i (omega arith), e, last_back ns n) (f i (omega arith))
 
 -- the last of a list that rises is above the others
-pub last_above : (ns : List ℕ) (n : ℕ) (c : Counter) → StrictlyRising (ns ++ (n ∷ [])) → NumberIsAbove ns (hand.Number n c)
+pub last_above : (ns : List ℕ) (n : ℕ) (c : Counter) → StrictlyRising (ns ++ (n ∷ [])) → NumberIsAbove ns (Ok (n, c))
 last_above ns n c r i l = rw (last_front ns n i l, last_back ns n) at (r i (length ns) l (omega (arith, last_length ns n)))

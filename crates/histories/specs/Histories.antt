@@ -1,9 +1,7 @@
 -- The theorem of 02 request 4: whatever is called, and wherever the power is cut, no number is handed out twice.
-use Rattle.std.specs.Prelude.{◌≡◌, List, [], ◌∷◌, ◌++◌, ℕ, ◌^◌, ◌<◌, length, get_or, replicate}
+use Rattle.std.specs.Prelude.{◌≡◌, List, [], ◌∷◌, ◌++◌, ℕ, ◌^◌, ◌<◌, length, get_or, replicate, Ok}
 use Rattle.slots.specs.Area.{area_size, ceiling}
 use Rattle.journal.specs.declared.Counter.{Counter}
-use Rattle.journal.specs.declared.Started.TheVariants as start
-use Rattle.journal.specs.declared.Handed.TheVariants as hand
 use Rattle.journal.specs.Answers.{restart_of, next_of, raise_of, raise_part_of}
 use Rattle.recovery.specs.Cuts.{Finds, SurvivesCuts}
 
@@ -22,8 +20,8 @@ pub data History : List ℕ → Run → List ℕ → Type 0 where
   -- "fresh area all zero"
   fresh : History (replicate area_size 0) off []
   -- "each run begun by a restart", at any time
-  restart : {a : List ℕ} {r : Run} {ns : List ℕ} {c : Counter} → History a r ns → restart_of a ≡ start.Ready c → History a (on c) ns
-  next : {a : List ℕ} {c c' : Counter} {ns : List ℕ} {n : ℕ} → History a (on c) ns → next_of c a ≡ hand.Number n c'
+  restart : {a : List ℕ} {r : Run} {ns : List ℕ} {c : Counter} → History a r ns → restart_of a ≡ Ok c → History a (on c) ns
+  next : {a : List ℕ} {c c' : Counter} {ns : List ℕ} {n : ℕ} → History a (on c) ns → next_of c a ≡ Ok (n, c')
       → History a (on c') (ns ++ (n ∷ []))
   raise : {a : List ℕ} {c : Counter} {ns : List ℕ} (v : ℕ) → IsU64 v → History a (on c) ns → History (raise_of a v).area (on c) ns
   -- a raise that stops after n of its stores: `power-off` may follow, which is a power cut there

@@ -8,22 +8,7 @@ ghost use Rattle.histories.specs.Histories.{off, History, EveryHistory};
 ghost use Rattle.histories.specs.Example.{ExampleHistory};
 ghost use Rattle.histories.specs.Closed.{RestartGoesOn, RestartKept, NextGoesOn, RaiseGoesOn, RaiseKept, PowerGoes, NoneTwice, RestartHeld, NextIsAbove, RaiseHeld, FirstRaise};
 
-use journal::{Counter, Handed, Raised, Started};
-
-// What a raise and the restart after it answer.
-#[derive(Clone, Copy)]
-struct Outcome {
-    answer: Raised,
-    found: Started,
-}
-
-// What a raise answers, and the restarts before and after it.
-#[derive(Clone, Copy)]
-struct Around {
-    before: Started,
-    answer: Raised,
-    after: Started,
-}
+use journal::{Counter, Refused};
 
 // No code: it holds the check to the theorem.
 fn theorem()
@@ -34,7 +19,7 @@ fn theorem()
 {}
 
 // Not called: each makes calls of a history on the journal's code, for what it ensures alone.
-fn restarts(area: &[u8]) -> Started
+fn restarts(area: &[u8]) -> Result<Counter, Refused>
     ensures history { RestartGoesOn area.now }
     ensures promise { RestartKept area.now result }
     ensures held { RestartHeld area.now result }
@@ -42,59 +27,62 @@ fn restarts(area: &[u8]) -> Started
     journal::restart(area)
 }
 
-fn hands_out(counter: Counter, area: &[u8]) -> Handed
+fn hands_out(counter: Counter, area: &[u8]) -> Result<(u64, Counter), Refused>
     ensures history { NextGoesOn area.now counter result }
     ensures above { NextIsAbove area.now counter result }
 {
     journal::next(counter, area)
 }
 
-fn raises(area: &mut [u8], value: u64) -> Outcome
+// What a raise answers, and then the restart after it. Two functions and no generic one, since each holds one call of a history; so with the
+// next two.
+fn raises(area: &mut [u8], value: u64) -> (Result<(), Refused>, Result<Counter, Refused>)
     ensures history { RaiseGoesOn area.old area.new }
-    ensures promise { RaiseKept area.old value store_count result.answer result.found }
-    ensures first { FirstRaise area.old value result.answer result.found }
+    ensures promise { RaiseKept area.old value store_count result.0 result.1 }
+    ensures first { FirstRaise area.old value result.0 result.1 }
 {
     let answer = journal::raise(area, value);
-    Outcome {
-        answer,
-        found: journal::restart(area),
-    }
+    (answer, journal::restart(area))
 }
 
-fn stops(area: &mut [u8], value: u64, stores: u8) -> Outcome
+fn stops(area: &mut [u8], value: u64, stores: u8) -> (Result<(), Refused>, Result<Counter, Refused>)
     ensures history { RaiseGoesOn area.old area.new }
-    ensures promise { RaiseKept area.old value stores result.answer result.found }
+    ensures promise { RaiseKept area.old value stores result.0 result.1 }
 {
     let answer = journal::raise_part(area, value, stores);
-    Outcome {
-        answer,
-        found: journal::restart(area),
-    }
+    (answer, journal::restart(area))
 }
 
 // With a restart before the raise, so that the old ceiling is what the code finds.
-fn raises_around(area: &mut [u8], value: u64) -> Around
-    ensures { RaiseHeld area.old value store_count result.before result.answer result.after }
+fn raises_around(
+    area: &mut [u8],
+    value: u64,
+) -> (
+    Result<Counter, Refused>,
+    Result<(), Refused>,
+    Result<Counter, Refused>,
+)
+    ensures { RaiseHeld area.old value store_count result.0 result.1 result.2 }
 {
     let before = journal::restart(area);
     let answer = journal::raise(area, value);
-    Around {
-        before,
-        answer,
-        after: journal::restart(area),
-    }
+    (before, answer, journal::restart(area))
 }
 
-fn stops_around(area: &mut [u8], value: u64, stores: u8) -> Around
-    ensures { RaiseHeld area.old value stores result.before result.answer result.after }
+fn stops_around(
+    area: &mut [u8],
+    value: u64,
+    stores: u8,
+) -> (
+    Result<Counter, Refused>,
+    Result<(), Refused>,
+    Result<Counter, Refused>,
+)
+    ensures { RaiseHeld area.old value stores result.0 result.1 result.2 }
 {
     let before = journal::restart(area);
     let answer = journal::raise_part(area, value, stores);
-    Around {
-        before,
-        answer,
-        after: journal::restart(area),
-    }
+    (before, answer, journal::restart(area))
 }
 
 fn loses_power(area: &[u8])

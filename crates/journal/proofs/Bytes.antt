@@ -2,33 +2,24 @@
 use mathlib.Core.Path.{◌≡◌, refl, sym, ap, ◌∙◌}
 use mathlib.Core.Bool.{Bool, true, false, cond}
 use mathlib.Core.List.{List, [], ◌∷◌, ◌++◌}
-use Prim.Native.Nat.{ℕ, zero, suc, ◌+◌, ◌-◌, ◌*◌, ◌/◌, ◌%◌, ◌^◌, ◌<◌, ◌≤◌, min}
+use Prim.Native.Nat.{ℕ, zero, suc, ◌+◌, ◌-◌, ◌*◌, ◌<◌, ◌≤◌, min}
 use native.Mathlib.Nat.{div-div-eq-div-mul}
 use native.Mathlib.Omega.{arith}
 use borrow.Author.Tests.{leb-true, leb-false, eqb-true, eqb-false}
 use lib.Dec.{eqb, leb}
-use lib.Pow.{pow-add}
-use lib.ListN.{length, get_or, set, take, length-set}
+use lib.ListN.{length, get_or, set, take, length-set, get_or-append}
 use lib.Seq.{take-suc, take_all, get_or-append-add}
+use Rattle.std.specs.Int.{w64, to_le_bytes}
 use Rattle.fields.specs.Fields.{bytes_of}
 use Rattle.fields.proofs.Laws.{length_bytes_of}
 use Rattle.slots.specs.Area.{place_of, kind_field, taken_length, taken_kind}
 use Rattle.journal.specs.declared.Store.{Store}
 use Rattle.journal.specs.Stores.{store, upward, stores, store_count, made}
 
--- byte i of a number
-pub byte_at : (n v i : ℕ) → i < n → get_or (bytes_of n v) i 0 ≡ v / 2 ^ (8 * i) % 256
+-- the bytes of a number of eight
+le_bytes : (v : ℕ) → to_le_bytes w64 v ≡ bytes_of 8 v
 unfolding bytes_of
-byte_at zero v i l = absurd (omega arith)
-byte_at (suc n) v zero l = omega arith
-byte_at (suc n) v (suc i) l =
-    let e : 8 * suc i ≡ 8 + 8 * i = omega arith in
-    byte_at n (v / 256) i (omega arith) ∙ ap (λ (x : ℕ). x % 256) (div-div-eq-div-mul v 256 (2 ^ (8 * i)) ∙ rw (e, pow-add 2 8 (8 * i)))
-
-append_left : (xs ys : List ℕ) (i : ℕ) → i < length xs → get_or (xs ++ ys) i 0 ≡ get_or xs i 0
-append_left [] ys i l = absurd (omega arith)
-append_left (x ∷ xs) ys zero l = refl
-append_left (x ∷ xs) ys (suc i) l = append_left xs ys i (omega arith)
+le_bytes v = simp div-div-eq-div-mul
 
 -- store i of bytes that are stored upward, whatever is stored after them
 upward_at : (p : ℕ) (bs : List ℕ) (ss : List Store) (i : ℕ) → i < length bs → get_or (upward p bs ++ ss) i (store 0 0) ≡ store (p + i) (get_or bs i 0)
@@ -36,6 +27,11 @@ unfolding upward
 upward_at p [] ss i l = absurd (omega arith)
 upward_at p (b ∷ bs) ss zero l = let e : p + 0 ≡ p = omega arith in rw e
 upward_at p (b ∷ bs) ss (suc i) l = let e : p + suc i ≡ p + 1 + i = omega arith in rw e (upward_at (p + 1) bs ss i (omega arith))
+
+-- the kind's
+pub kind_bytes : 1 ∷ 0 ∷ [] ≡ bytes_of 2 taken_kind
+unfolding bytes_of
+kind_bytes = refl
 
 module _ (slot v i : ℕ) where
   abbrev ten : List ℕ
@@ -52,15 +48,15 @@ module _ (slot v i : ℕ) where
   unfolding stores
   first_ten l = sym (upward_at (place_of slot kind_field) ten _ i (rw ten_length l))
 
-  pub store_kind : (b : ℕ) → i < 2 → b ≡ taken_kind / 2 ^ (8 * i) % 256 → store (12 * slot + 2 + i) b ≡ at_store
-  store_kind b l e =
-      ap (store (12 * slot + 2 + i)) (e ∙ sym (byte_at 2 taken_kind i l) ∙ sym (append_left (bytes_of 2 taken_kind) (bytes_of 8 v) i (rw length_bytes_of l)))
+  pub store_kind : (bs : List ℕ) → bs ≡ bytes_of 2 taken_kind → i < 2 → store (12 * slot + 2 + i) (get_or bs i 0) ≡ at_store
+  store_kind bs e l =
+      ap (store (12 * slot + 2 + i)) (rw e (sym (get_or-append (bytes_of 2 taken_kind) (bytes_of 8 v) 0 i (rw length_bytes_of l))))
       ∙ first_ten (omega arith)
 
-  pub store_ceiling : (b : ℕ) → 2 ≤ i → i < 10 → b ≡ v / 2 ^ (8 * (i - 2)) % 256 → store (12 * slot + 2 + i) b ≡ at_store
-  store_ceiling b m l e =
+  pub store_ceiling : (bs : List ℕ) → bs ≡ to_le_bytes w64 v → 2 ≤ i → i < 10 → store (12 * slot + 2 + i) (get_or bs (i - 2) 0) ≡ at_store
+  store_ceiling bs e m l =
       let d : length (bytes_of 2 taken_kind) + (i - 2) ≡ i = rw length_bytes_of (omega arith) in
-      ap (store (12 * slot + 2 + i)) (e ∙ sym (byte_at 8 v (i - 2) (omega arith)) ∙ rw d at (sym (get_or-append-add (bytes_of 2 taken_kind) (bytes_of 8 v) (i - 2) 0)))
+      ap (store (12 * slot + 2 + i)) (rw (e, le_bytes v) (rw d at (sym (get_or-append-add (bytes_of 2 taken_kind) (bytes_of 8 v) (i - 2) 0))))
       ∙ first_ten l
 
   pub store_length : 10 ≤ i → i < store_count → store (12 * slot) taken_length ≡ at_store

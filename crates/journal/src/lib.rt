@@ -4,76 +4,60 @@
 ghost use Rattle.std.specs.Prelude.{◌≡◌, cond, ◌-◌, ◌*◌, ◌/◌, ◌%◌, ◌^◌, ◌<◌, eqb, get_or, set, take};
 ghost use Rattle.slots.specs.Area.{slot_count};
 ghost use Rattle.journal.specs.Stores.{store, stores, store_count, made};
-ghost use Rattle.journal.specs.Answers.{restart_of, next_of, left, raise_of, raise_part_of};
+ghost use Rattle.journal.specs.Answers.{refused, restart_of, next_of, left, raise_of, raise_part_of};
 
-use slots::{Contents, KIND_AT, SLOT_COUNT, SLOT_SIZE, TAKEN_KIND, TAKEN_LENGTH};
+use slots::{KIND_AT, Malformed, SLOT_SIZE, TAKEN_KIND, TAKEN_LENGTH};
 
 // The byte stores of a raise.
 const STORE_COUNT: u8 = 11;
 
 // The next number to hand out.
-#[derive(Clone, Copy)]
+#[derive(Clone, Copy, PartialEq, Eq)]
 pub struct Counter {
     pub next: u64,
 }
 
-#[derive(Clone, Copy)]
-pub enum Started {
-    Ready(Counter),
-    Refused,
-}
+// The one answer of a call that is not served.
+#[derive(Clone, Copy, PartialEq, Eq)]
+pub struct Refused;
 
-// The number handed out, and the counter for the next call.
-#[derive(Clone, Copy)]
-pub enum Handed {
-    Number(u64, Counter),
-    Refused,
-}
+impl From<Malformed> for Refused {
+    ghost from_gives = { λ _ r. r ≡ refused };
 
-#[derive(Clone, Copy)]
-pub enum Raised {
-    Done,
-    Refused,
+    fn from(_malformed: Malformed) -> Refused {
+        Refused
+    }
 }
 
 // One byte store of a raise.
-#[derive(Clone, Copy)]
+#[derive(Clone, Copy, PartialEq, Eq)]
 pub struct Store {
     pub at: usize,
     pub byte: u8,
 }
 
-pub fn restart(area: &[u8]) -> Started
+#[tactic(auto, unfolding(crate::specs::Answers::restart_of, slots::specs::Contents::contents_of))]
+pub fn restart(area: &[u8]) -> Result<Counter, Refused>
     ensures { result ≡ restart_of area.now }
 {
-    let found = slots::read(area);
-    match found {
-        Contents::Ceilings(_, ceiling) => return Started::Ready(Counter { next: ceiling }),
-        Contents::Malformed => return Started::Refused,
-    }
+    let found = slots::read(area)?;
+    Ok(Counter {
+        next: found.ceiling,
+    })
 }
 
-pub fn next(counter: Counter, area: &[u8]) -> Handed
+// The number handed out, and the counter for the next call.
+#[tactic(auto, unfolding(crate::specs::Answers::next_of, slots::specs::Contents::contents_of))]
+pub fn next(counter: Counter, area: &[u8]) -> Result<(u64, Counter), Refused>
     ensures { result ≡ next_of counter area.now }
 {
     let number = counter.next;
-    let found = slots::read(area);
-    match found {
-        Contents::Ceilings(_, ceiling) => {
-            if number < ceiling {
-                return Handed::Number(number, Counter { next: number + 1 });
-            }
-            return Handed::Refused;
-        }
-        Contents::Malformed => return Handed::Refused,
+    let found = slots::read(area)?;
+    if number < found.ceiling {
+        Ok((number, Counter { next: number + 1 }))
+    } else {
+        Err(Refused)
     }
-}
-
-fn byte_of(value: u64, i: usize) -> u8
-    requires { i < 8 }
-    ensures { result ≡ value / 2 ^ (8 * i) % 256 }
-{
-    ((value >> ((8 * i) as u32)) % 256) as u8
 }
 
 // The i-th store of a raise.
@@ -83,20 +67,20 @@ fn store_of(slot: usize, value: u64, i: usize) -> Store
 {
     let at = SLOT_SIZE * slot;
     if i < 2 {
-        return Store {
+        Store {
             at: at + KIND_AT + i,
-            byte: byte_of(TAKEN_KIND as u64, i),
-        };
-    }
-    if i < 10 {
-        return Store {
+            byte: TAKEN_KIND.to_le_bytes()[i],
+        }
+    } else if i < 10 {
+        Store {
             at: at + KIND_AT + i,
-            byte: byte_of(value, i - 2),
-        };
-    }
-    Store {
-        at,
-        byte: TAKEN_LENGTH as u8,
+            byte: value.to_le_bytes()[i - 2],
+        }
+    } else {
+        Store {
+            at,
+            byte: TAKEN_LENGTH as u8,
+        }
     }
 }
 
@@ -105,14 +89,12 @@ fn store_one(area: &mut [u8], s: Store, power: u8) -> u8
     ensures area { area.new ≡ cond (eqb power 0) area.old (set area.old s.at s.byte) }
     ensures power { result ≡ power - 1 }
 {
-    let at = s.at;
-    let byte = s.byte;
     if power == 0 {
         return 0;
     }
-    if at < area.len() {
-        area[at] = byte;
-        return power - 1;
+    // After a write through `get_mut` a proof knows no byte of the area.
+    if s.at < area.len() {
+        area[s.at] = s.byte;
     }
     power - 1
 }
@@ -123,34 +105,26 @@ fn store_all(area: &mut [u8], slot: usize, value: u64, power: u8)
     ensures { area.new ≡ made (take power (stores slot value)) area.old }
 {
     let mut left = power;
-    let mut i = 0;
-    while i < STORE_COUNT as usize {
+    for i in 0..usize::from(STORE_COUNT) {
         left = store_one(area, store_of(slot, value, i), left);
-        i = i + 1;
     }
 }
 
 // A raise with power for n of its stores.
-pub fn raise_part(area: &mut [u8], value: u64, n: u8) -> Raised
+#[tactic(auto, using(crate::proofs::Answering::first_free_most), unfolding(crate::specs::Answers::raise_part_of, crate::specs::Answers::refuses_raise, slots::specs::Contents::contents_of))]
+pub fn raise_part(area: &mut [u8], value: u64, n: u8) -> Result<(), Refused>
     ensures { left result area.new ≡ raise_part_of area.old value n }
 {
-    let found = slots::read(area);
-    match found {
-        Contents::Ceilings(count, ceiling) => {
-            if count == SLOT_COUNT {
-                return Raised::Refused;
-            }
-            if value <= ceiling {
-                return Raised::Refused;
-            }
-            store_all(area, count, value, n);
-            return Raised::Done;
-        }
-        Contents::Malformed => return Raised::Refused,
+    let found = slots::read(area)?;
+    if found.is_full() || value <= found.ceiling {
+        return Err(Refused);
     }
+    store_all(area, found.count, value, n);
+    Ok(())
 }
 
-pub fn raise(area: &mut [u8], value: u64) -> Raised
+#[tactic(auto, using(crate::proofs::Answering::part_whole))]
+pub fn raise(area: &mut [u8], value: u64) -> Result<(), Refused>
     ensures { left result area.new ≡ raise_of area.old value }
 {
     raise_part(area, value, STORE_COUNT)

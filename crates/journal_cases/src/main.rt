@@ -2,39 +2,9 @@
 // A line is a name, a colon, and commands with their numbers; a semicolon or the line's end closes each. The colon brings a fresh area.
 #![tactic(auto)]
 
-use journal::{Counter, Handed, Raised, Started};
-use slots::Contents;
+use journal::{Counter, Refused};
+use slots::{Malformed, Taken};
 use std::io;
-
-// The first two letters of each command, as a number.
-const RESTART: u16 = 0x7265;
-
-const NUMBER: u16 = 0x6e75;
-
-// raise VALUE; cut VALUE STORES, a raise that stops after so many stores
-const RAISE: u16 = 0x7261;
-
-const CUT: u16 = 0x6375;
-
-// taken, how many slots are, and the ceiling; slot INDEX, its bytes
-const TAKEN: u16 = 0x7461;
-
-const SLOT: u16 = 0x736c;
-
-// fill LIMIT, raises to 1, 2 and so on up to the limit
-const FILL: u16 = 0x6669;
-
-// by hand: put AT COUNT VALUE, the count low bytes of a value; counter NUMBER; size SIZE, how many bytes are lent from then on
-const PUT: u16 = 0x7075;
-
-const COUNTER: u16 = 0x636f;
-
-const SIZE: u16 = 0x7369;
-
-// keep, a copy of the bytes; changed, how many differ from the copy
-const KEEP: u16 = 0x6b65;
-
-const CHANGED: u16 = 0x6368;
 
 // All bytes that are ever lent: one more than an area has.
 const SPACE: usize = 4097;
@@ -42,10 +12,101 @@ const SPACE: usize = 4097;
 // A tenth of 2^64, rounded up.
 const TENTH: u64 = 1844674407370955162;
 
-// A command as far as it is read, with the last three numbers in it; the next number to hand out; how many bytes are lent.
+// A call on the area.
+#[derive(Clone, Copy)]
+enum Call {
+    Restart,
+    Number,
+    // raise VALUE; cut VALUE STORES, a raise that stops after so many stores
+    Raise,
+    Cut,
+    // taken, how many slots are, and the ceiling; slot INDEX, its bytes
+    Taken,
+    Slot,
+    // fill LIMIT, raises to 1, 2 and so on up to the limit
+    Fill,
+}
+
+#[derive(Clone, Copy)]
+enum Command {
+    Call(Call),
+    // by hand: put AT COUNT VALUE, the count low bytes of a value; counter NUMBER; size SIZE, how many bytes are lent from then on
+    Put,
+    Counter,
+    Size,
+    // keep, a copy of the bytes; changed, how many differ from the copy
+    Keep,
+    Changed,
+}
+
+// The first two letters of a command's name, as far as they are read.
+#[derive(Clone, Copy)]
+enum Letters {
+    None,
+    One(u8),
+    Two(u8, u8),
+}
+
+impl Letters {
+    // A zero byte before the name is passed over.
+    fn with(self, letter: u8) -> Letters {
+        match self {
+            Letters::None if letter == 0 => Letters::None,
+            Letters::None => Letters::One(letter),
+            Letters::One(first) => Letters::Two(first, letter),
+            Letters::Two(..) => self,
+        }
+    }
+
+    fn command(self) -> Option<Command> {
+        match self {
+            Letters::Two(b'r', b'e') => Some(Command::Call(Call::Restart)),
+            Letters::Two(b'n', b'u') => Some(Command::Call(Call::Number)),
+            Letters::Two(b'r', b'a') => Some(Command::Call(Call::Raise)),
+            Letters::Two(b'c', b'u') => Some(Command::Call(Call::Cut)),
+            Letters::Two(b't', b'a') => Some(Command::Call(Call::Taken)),
+            Letters::Two(b's', b'l') => Some(Command::Call(Call::Slot)),
+            Letters::Two(b'f', b'i') => Some(Command::Call(Call::Fill)),
+            Letters::Two(b'p', b'u') => Some(Command::Put),
+            Letters::Two(b'c', b'o') => Some(Command::Counter),
+            Letters::Two(b's', b'i') => Some(Command::Size),
+            Letters::Two(b'k', b'e') => Some(Command::Keep),
+            Letters::Two(b'c', b'h') => Some(Command::Changed),
+            _ => None,
+        }
+    }
+}
+
+// The bytes that are lent, and the copy of them that was kept.
+#[derive(Drop)]
+struct Bytes {
+    now: [u8; SPACE],
+    kept: [u8; SPACE],
+}
+
+impl Bytes {
+    fn fresh() -> Bytes {
+        Bytes {
+            now: [0; SPACE],
+            kept: [0; SPACE],
+        }
+    }
+
+    // How many bytes differ from the copy.
+    fn changed(&self) -> usize {
+        self.now
+            .iter()
+            .zip(&self.kept)
+            .filter(|(a, b)| a != b)
+            .count()
+    }
+}
+
+// A command as far as it is read, by its first two letters, with the last three numbers in it; the next number to hand out; how many bytes
+// are lent.
 #[derive(Clone, Copy)]
 struct Script {
-    command: u16,
+    letters: Letters,
     first: u64,
     second: u64,
     third: u64,
@@ -53,21 +114,18 @@ struct Script {
     size: usize,
 }
 
-fn letter_after(command: u16, letter: u8) -> u16 {
-    if command < 256 {
-        return command * 256 + letter as u16;
-    }
-    command
+fn digit_after(number: u64, digit: u8) -> u64 {
+    (number % TENTH * 10).wrapping_add(u64::from(digit % 16))
 }
 
-fn digit_after(number: u64, digit: u8) -> u64 {
-    (number % TENTH * 10).wrapping_add((digit % 16) as u64)
+fn low_byte(number: u64) -> u8 {
+    (number % 256) as u8
 }
 
 impl Script {
     fn begun() -> Script {
         Script {
-            command: 0,
+            letters: Letters::None,
             first: 0,
             second: 0,
             third: 0,
@@ -77,207 +135,156 @@ impl Script {
     }
 
     // A blank begins the next number.
-    fn with_byte(mut self, byte: u8) -> Script {
+    fn with_byte(self, byte: u8) -> Script {
         match byte {
-            b' ' => {
-                self.first = self.second;
-                self.second = self.third;
-                self.third = 0;
-            }
-            b'0'..=b'9' => self.third = digit_after(self.third, byte),
-            _ => self.command = letter_after(self.command, byte),
+            b' ' => Script {
+                first: self.second,
+                second: self.third,
+                third: 0,
+                ..self
+            },
+            b'0'..=b'9' => Script {
+                third: digit_after(self.third, byte),
+                ..self
+            },
+            _ => Script {
+                letters: self.letters.with(byte),
+                ..self
+            },
         }
-        self
     }
 
-    fn without_command(mut self) -> Script {
-        self.command = 0;
-        self
+    fn low_half(self) -> u16 {
+        (self.third % 65536) as u16
     }
-}
-
-fn say(rt: &impl Print, text: &[u8]) -> io::Result<()> {
-    rt.write_all(text)
 }
 
 fn say_number(rt: &impl Print, number: u64) -> io::Result<()> {
     print!(rt; " {number}")
 }
 
-// The next number that is left; the same one after a refusal.
-fn restart(rt: &impl Print, area: &[u8], next: u64) -> io::Result<u64> {
-    let started = journal::restart(area);
-    match started {
-        Started::Ready(counter) => {
-            say_number(rt, counter.next)?;
-            Ok(counter.next)
-        }
-        Started::Refused => {
-            say(rt, b" refused")?;
-            Ok(next)
-        }
-    }
-}
-
-fn number(rt: &impl Print, area: &[u8], next: u64) -> io::Result<u64> {
-    let handed = journal::next(Counter { next }, area);
-    match handed {
-        Handed::Number(number, counter) => {
+// A number, and what is next after it; after a refusal what is next stays. What is next then.
+fn say_answer(
+    rt: &impl Print,
+    answer: Result<(u64, Counter), Refused>,
+    next: u64,
+) -> io::Result<u64> {
+    match answer {
+        Ok((number, counter)) => {
             say_number(rt, number)?;
             Ok(counter.next)
         }
-        Handed::Refused => {
-            say(rt, b" refused")?;
+        Err(Refused) => {
+            print!(rt; " refused")?;
             Ok(next)
         }
     }
 }
 
-fn is_done(raised: Raised) -> bool {
+fn say_raised(rt: &impl Print, raised: Result<(), Refused>) -> io::Result<()> {
     match raised {
-        Raised::Done => true,
-        Raised::Refused => false,
+        Ok(()) => print!(rt; " done"),
+        Err(Refused) => print!(rt; " refused"),
     }
 }
 
-fn say_raised(rt: &impl Print, raised: Raised) -> io::Result<()> {
-    if is_done(raised) {
-        return say(rt, b" done");
-    }
-    say(rt, b" refused")
+fn filled(area: &mut [u8], limit: u16) -> usize {
+    (1..=limit)
+        .filter(|value| journal::raise(area, u64::from(*value)).is_ok())
+        .count()
 }
 
-fn filled(area: &mut [u8], limit: u16) -> u32 {
-    let mut count: u32 = 0;
-    let mut value: u16 = 0;
-    while value < limit {
-        value = value + 1;
-        count = count + fields::flag(is_done(journal::raise(area, value as u64)));
-    }
-    count
-}
-
-fn say_contents(rt: &impl Print, found: Contents) -> io::Result<()> {
+fn say_contents(rt: &impl Print, found: Result<Taken, Malformed>) -> io::Result<()> {
     match found {
-        Contents::Ceilings(count, ceiling) => {
-            say_number(rt, count as u64)?;
-            say(rt, b", ceiling")?;
-            say_number(rt, ceiling)
-        }
-        Contents::Malformed => say(rt, b" malformed"),
+        Ok(Taken { count, ceiling }) => print!(rt; " {count}, ceiling {ceiling}"),
+        Err(Malformed) => print!(rt; " malformed"),
     }
 }
 
 fn say_slot(rt: &impl Print, area: &[u8], slot: u16) -> io::Result<()> {
-    let mut i = 0;
-    while i < 12 {
-        let byte = fields::byte(area, 12 * slot as usize + i);
+    for i in 0..12 {
+        let byte: u8 = fields::number(area, 12 * usize::from(slot) + i);
         print!(rt; " {byte:02x}")?;
-        i = i + 1;
     }
     Ok(())
 }
 
-fn differing(a: &[u8], b: &[u8]) -> u32 {
-    let mut count: u32 = 0;
-    let mut at = 0;
-    while at < SPACE {
-        count = count + fields::flag(fields::byte(a, at) != fields::byte(b, at));
-        at = at + 1;
-    }
-    count
-}
-
-// A call on an area: the next number that is left.
-fn called(rt: &impl Print, area: &mut [u8], script: Script) -> io::Result<u64> {
-    let command = script.command;
-    match command {
-        RESTART => return restart(rt, area, script.next),
-        NUMBER => return number(rt, area, script.next),
-        RAISE => say_raised(rt, journal::raise(area, script.third))?,
-        CUT => say_raised(
+// The next number that is left after a call.
+fn called(rt: &impl Print, area: &mut [u8], call: Call, script: Script) -> io::Result<u64> {
+    let next = script.next;
+    match call {
+        Call::Restart => {
+            let begun = journal::restart(area);
+            return say_answer(rt, begun.map(|counter| (counter.next, counter)), next);
+        }
+        Call::Number => return say_answer(rt, journal::next(Counter { next }, area), next),
+        Call::Raise => say_raised(rt, journal::raise(area, script.third))?,
+        Call::Cut => say_raised(
             rt,
-            journal::raise_part(area, script.second, (script.third % 256) as u8),
+            journal::raise_part(area, script.second, low_byte(script.third)),
         )?,
-        TAKEN => say_contents(rt, slots::read(area))?,
-        SLOT => say_slot(rt, area, (script.third % 65536) as u16)?,
-        FILL => say_number(rt, filled(area, (script.third % 65536) as u16) as u64)?,
-        _ => say(rt, b" unknown")?,
+        Call::Taken => say_contents(rt, slots::read(area))?,
+        Call::Slot => say_slot(rt, area, script.low_half())?,
+        Call::Fill => say_number(rt, filled(area, script.low_half()) as u64)?,
     }
-    Ok(script.next)
+    Ok(next)
 }
 
-// A call on the bytes that are lent.
-fn lent(rt: &impl Print, space: &mut [u8], script: Script) -> io::Result<u64> {
-    let size = fields::at_most(script.size, space.len());
-    say(rt, b" ->")?;
-    called(rt, &mut space[0..size], script)
-}
-
-fn say_changed(rt: &impl Print, before: &[u8], space: &[u8]) -> io::Result<()> {
-    say(rt, b" ->")?;
-    say_number(rt, differing(before, space) as u64)
-}
-
-fn performed(
-    rt: &impl Print,
-    space: &mut [u8; SPACE],
-    before: &mut [u8; SPACE],
-    script: Script,
-) -> io::Result<Script> {
-    let mut after = script.without_command();
-    let command = script.command;
-    match command {
-        PUT => fields::store_at(
-            space,
+// What is left of the script behind a command.
+fn performed(rt: &impl Print, bytes: &mut Bytes, script: Script) -> io::Result<Script> {
+    let mut after = Script {
+        letters: Letters::None,
+        ..script
+    };
+    match script.letters.command() {
+        Some(Command::Put) => fields::store_at(
+            &mut bytes.now,
             script.first as usize,
-            (script.second % 256) as u8,
+            low_byte(script.second),
             script.third,
         ),
-        COUNTER => after.next = script.third,
-        SIZE => after.size = script.third as usize,
-        KEEP => *before = *space,
-        CHANGED => say_changed(rt, before, space)?,
-        _ => after.next = lent(rt, space, script)?,
+        Some(Command::Counter) => after.next = script.third,
+        Some(Command::Size) => after.size = script.third as usize,
+        Some(Command::Keep) => bytes.kept.copy_from_slice(&bytes.now),
+        Some(Command::Changed) => {
+            print!(rt; " ->")?;
+            say_number(rt, bytes.changed() as u64)?;
+        }
+        Some(Command::Call(call)) => {
+            print!(rt; " ->")?;
+            let size = script.size.min(SPACE);
+            after.next = called(rt, &mut bytes.now[..size], call, script)?;
+        }
+        None => print!(rt; " -> unknown")?,
     }
     Ok(after)
 }
 
 // One byte of the script.
-fn turn(
-    rt: &impl Print,
-    space: &mut [u8; SPACE],
-    before: &mut [u8; SPACE],
-    script: Script,
-    byte: u8,
-) -> io::Result<Script> {
+fn turn(rt: &impl Print, bytes: &mut Bytes, script: Script, byte: u8) -> io::Result<Script> {
     match byte {
         b':' => {
-            *space = [0u8; SPACE];
-            *before = [0u8; SPACE];
-            say(rt, b":")?;
+            *bytes = Bytes::fresh();
+            rt.write_all(&[byte])?;
             Ok(Script::begun())
         }
         b';' | b'\n' => {
-            let after = performed(rt, space, before, script)?;
-            say(rt, &[byte])?;
+            let after = performed(rt, bytes, script)?;
+            rt.write_all(&[byte])?;
             Ok(after)
         }
         _ => {
-            say(rt, &[byte])?;
+            rt.write_all(&[byte])?;
             Ok(script.with_byte(byte))
         }
     }
 }
 
 fn play(rt: &impl Print, text: &[u8]) -> io::Result<()> {
-    let mut space = [0u8; SPACE];
-    let mut before = [0u8; SPACE];
+    let mut bytes = Bytes::fresh();
     let mut script = Script::begun();
-    let mut at = 0;
-    while at < text.len() {
-        script = turn(rt, &mut space, &mut before, script, text[at])?;
-        at = at + 1;
+    for &byte in text {
+        script = turn(rt, &mut bytes, script, byte)?;
     }
     Ok(())
 }

@@ -6,11 +6,9 @@ use Prim.Native.Nat.{ℕ}
 use lib.Dec.{ltb}
 use Rattle.fields.specs.Fields.{bit}
 use Rattle.slots.specs.Area.{well_formed, ceiling}
+use Rattle.std.specs.Prelude.{Ok, Err}
 use Rattle.journal.specs.declared.Counter.{Counter}
-use Rattle.journal.specs.declared.Started.TheVariants as start
-use Rattle.journal.specs.declared.Handed.TheVariants as hand
-use Rattle.journal.specs.Answers.{counter, restart_of, next_of, refuses_raise, left, raise_of, raise_part_of}
-use Rattle.journal.specs.declared.Raised.TheVariants as rise
+use Rattle.journal.specs.Answers.{counter, refused, restart_of, next_of, refuses_raise, left, raise_of, raise_part_of}
 use Rattle.journal_export.specs.Export.{started_result, handed_result, raised_result}
 
 -- a result by a test: 0 where it holds, and 1 where it doesn't
@@ -20,14 +18,14 @@ by_test result false x y e f = f
 
 pub restart_bit : (a : List ℕ) → started_result (restart_of a) ≡ bit (not (well_formed a))
 unfolding restart_of
-restart_bit a = by_test started_result (well_formed a) (start.Ready (counter (ceiling a))) start.Refused refl refl
+restart_bit a = by_test started_result (well_formed a) (Ok (counter (ceiling a))) (Err refused) refl refl
 
 pub next_bit : (c : Counter) (a : List ℕ) → handed_result (next_of c a) ≡ bit (not (well_formed a && ltb c.next (ceiling a)))
 unfolding next_of
-next_bit c a = by_test handed_result (well_formed a && ltb c.next (ceiling a)) _ hand.Refused refl refl
+next_bit c a = by_test handed_result (well_formed a && ltb c.next (ceiling a)) _ (Err refused) refl refl
 
 module _ (a : List ℕ) (v : ℕ) where
-  refused_bit : (b : Bool) (l : List ℕ) → raised_result (cond b (left rise.Refused a) (left rise.Done l)).answer ≡ bit b
+  refused_bit : (b : Bool) (l : List ℕ) → raised_result (cond b (left (Err refused) a) (left (Ok tt) l)).answer ≡ bit b
   refused_bit true l = refl
   refused_bit false l = refl
 

@@ -4,13 +4,13 @@
 
 ghost use Rattle.std.specs.Prelude.{◌≡◌, not, ◌&&◌, ltb};
 ghost use Rattle.fields.specs.Fields.{bit};
-ghost use Rattle.slots.specs.Area.{well_formed, ceiling as lastCeiling};
+ghost use Rattle.slots.specs.Area.{well_formed, ceiling as last_ceiling};
 ghost use Rattle.journal.specs.Answers.{counter, restart_of, next_of, refuses_raise, raise_of, raise_part_of};
 ghost use Rattle.journal_export.specs.Export.{started_result, started_next, handed_result, handed_next, handed_number, raised_result};
 
-use journal::{Counter, Handed, Raised, Started};
+use journal::{Counter, Refused};
 
-// The results are stated twice: by the rules of 02, and as the bit "refused".
+// The results are numbers, as C has them. They are stated twice: by the rules of 02, and as the bit "refused".
 const DONE: u8 = 0;
 
 const REFUSED: u8 = 1;
@@ -20,39 +20,33 @@ pub fn rostuvlad_journal_restart(area: &[u8], next: &mut u64) -> u8
     ensures refused { result ≡ bit (not (well_formed area.now)) }
     ensures next { next.new ≡ started_next (restart_of area.now) next.old }
 {
-    let started = journal::restart(area);
-    match started {
-        Started::Ready(begun) => {
-            *next = begun.next;
-            return DONE;
-        }
-        Started::Refused => return REFUSED,
-    }
+    let Ok(begun) = journal::restart(area) else {
+        return REFUSED;
+    };
+    *next = begun.next;
+    DONE
 }
 
 pub fn rostuvlad_journal_next(area: &[u8], next: &mut u64, number: &mut u64) -> u8
     ensures result { result ≡ handed_result (next_of (counter next.old) area.now) }
-    ensures refused { result ≡ bit (not (well_formed area.now && ltb next.old (lastCeiling area.now))) }
+    ensures refused { result ≡ bit (not (well_formed area.now && ltb next.old (last_ceiling area.now))) }
     ensures next { next.new ≡ handed_next (next_of (counter next.old) area.now) next.old }
     ensures number { number.new ≡ handed_number (next_of (counter next.old) area.now) number.old }
 {
-    let handed = journal::next(Counter { next: *next }, area);
-    match handed {
-        Handed::Number(given, after) => {
-            *next = after.next;
-            *number = given;
-            return DONE;
-        }
-        Handed::Refused => return REFUSED,
-    }
+    let Ok((given, after)) = journal::next(Counter { next: *next }, area) else {
+        return REFUSED;
+    };
+    *next = after.next;
+    *number = given;
+    DONE
 }
 
-fn raised_result(answer: Raised) -> u8
+fn raised_result(answer: Result<(), Refused>) -> u8
     ensures { result ≡ raised_result answer }
 {
     match answer {
-        Raised::Done => DONE,
-        Raised::Refused => REFUSED,
+        Ok(()) => DONE,
+        Err(Refused) => REFUSED,
     }
 }
 

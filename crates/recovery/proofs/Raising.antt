@@ -10,15 +10,13 @@ use lib.Dec.{eqb, leb, ltb}
 use lib.ListN.{length, take}
 use lib.Seq.{take_all}
 use Rattle.slots.specs.Area.{slot_count, taken_length, taken_kind, length_of, kind_of, ceiling_of, well_formed, first_free, ceiling_before, ceiling}
-use Rattle.slots.proofs.Searching.{false_true, each_more}
+use Rattle.slots.proofs.Searching.{each_more}
 use Rattle.slots.proofs.Passing.{before_more}
 use Rattle.slots.proofs.Holding.{Holds, formed, ceiling_is, formed_holds}
-use Rattle.journal.specs.declared.Started.{Started}
-use Rattle.journal.specs.declared.Started.TheVariants as start
-use Rattle.journal.specs.declared.Raised.{Raised}
-use Rattle.journal.specs.declared.Raised.TheVariants as rise
+use Rattle.std.proofs.lemmas.Bool.{true≢false}
+use Rattle.std.specs.Prelude.{Ok, Err}
 use Rattle.journal.specs.Stores.{stores, store_count, made}
-use Rattle.journal.specs.Answers.{counter, restart_of, refuses_raise, left, Left, raise_of, raise_part_of}
+use Rattle.journal.specs.Answers.{Started, Raised, counter, refused, restart_of, refuses_raise, left, Left, raise_of, raise_part_of}
 use Rattle.journal.proofs.Bytes.{length_made, eleven}
 use Rattle.journal.proofs.Answering.{part_whole}
 use Rattle.recovery.specs.Cuts.{Finds, found_after, SurvivesCuts}
@@ -108,8 +106,8 @@ unfolding refuses_raise
 accepted a v w r = by (eqb (first_free a) slot_count) (leb v (ceiling a)) refl refl (rw w at r)
   where
     by : (x y : Bool) → eqb (first_free a) slot_count ≡ x → leb v (ceiling a) ≡ y → x || y ≡ false → (first_free a ≡ slot_count → ⊥) × (ceiling a < v)
-    by true y p q e = false_true (sym e)
-    by false true p q e = false_true (sym e)
+    by true y p q e = absurd (true≢false e)
+    by false true p q e = absurd (true≢false e)
     by false false p q e = (eqb-false (first_free a) slot_count p, leb-false v (ceiling a) q)
 
 -- a raise, cut or not, leaves an area well formed, and no ceiling below the old one
@@ -143,7 +141,7 @@ module _ (a : List ℕ) (v : ℕ) (w : well_formed a ≡ true) (fit : v < 256 ^ 
     pub grows : ceiling a ≤ m
 
   abbrev after : ℕ → Bool → Left
-  after n b = cond b (left rise.Refused a) (left rise.Done (made (take n (stores (first_free a) v)) a))
+  after n b = cond b (left (Err refused) a) (left (Ok tt) (made (take n (stores (first_free a) v)) a))
 
   -- of one that isn't refused, by whether all stores are made
   leaves_done : {k : ℕ} (n : ℕ) → k ≡ store_count → refuses_raise a v ≡ false
@@ -179,8 +177,8 @@ module _ (a : List ℕ) (v : ℕ) (w : well_formed a ≡ true) (fit : v < 256 ^ 
 -- ---- of what the functions left
 
 module _ (a b : List ℕ) (x : Raised) (v : ℕ) (fit : v < 256 ^ 8) (s : Started) (f : s ≡ restart_of b) (w : well_formed a ≡ true) where
-  pub part_found : (n : ℕ) → left x b ≡ raise_part_of a v n → s ≡ start.Ready (counter (found_after x (ceiling a) v n))
+  pub part_found : (n : ℕ) → left x b ≡ raise_part_of a v n → s ≡ Ok (counter (found_after x (ceiling a) v n))
   part_found n e = f ∙ rw (ap (λ (l : Left). l.area) e, ap (λ (l : Left). l.answer) e) ((raise_survives a v w fit).cut n)
 
-  pub raise_found : left x b ≡ raise_of a v → s ≡ start.Ready (counter (found_after x (ceiling a) v store_count))
+  pub raise_found : left x b ≡ raise_of a v → s ≡ Ok (counter (found_after x (ceiling a) v store_count))
   raise_found e = f ∙ rw (ap (λ (l : Left). l.area) e, ap (λ (l : Left). l.answer) e) (raise_survives a v w fit).whole

@@ -1,6 +1,6 @@
 -- An area that holds n ceilings: well formed, with n slots taken. Assumes nothing.
 use mathlib.Core.Path.{◌≡◌, refl, sym, ap, ◌∙◌}
-use mathlib.Core.Bool.{Bool, true, false, ◌&&◌}
+use mathlib.Core.Bool.{Bool, true, false, and-false, ◌&&◌}
 use mathlib.Core.List.{List}
 use Prim.Native.Nat.{ℕ, zero, suc, ◌+◌, ◌-◌, ◌<◌, ◌≤◌}
 use native.Mathlib.Numerals.{add-one}
@@ -8,9 +8,10 @@ use native.Mathlib.Omega.{arith}
 use borrow.Author.Tests.{eq-eqb, ne_eqb, lt-ltb, ltb-true, ltb-false, eqb-true}
 use lib.Dec.{eqb, ltb}
 use lib.ListN.{length}
+use Rattle.std.proofs.lemmas.Bool.{and_parts, false≢true}
 use Rattle.slots.specs.Area.{area_size, slot_count, taken_length, taken_kind, length_of, kind_of, ceiling_of, free, taken, length_rule, order_rule, kind_rule, ceiling_rule, every, well_formed, first_free, ceiling_before, ceiling}
 use Rattle.slots.specs.Contents.{continues}
-use Rattle.slots.proofs.Searching.{false_true, and_left, and_right, and-false, or_right, every_true, every_each, first_most, first-is, first_below, first_at}
+use Rattle.slots.proofs.Searching.{or_right, every_true, every_each, first_most, first-is, first_below, first_at}
 
 pub record Holds (a : List ℕ) (n : ℕ) : Type 0 where
   pub size : length a ≡ area_size
@@ -92,15 +93,16 @@ module _ (a : List ℕ) (w : well_formed a ≡ true) where
       let o = every (slot_count - 1) (order_rule a) in
       let k = every slot_count (kind_rule a) in
       let c = every (slot_count - 1) (ceiling_rule a) in
-      let w4 = and_left (s && l && o && k) c w in
-      let w3 = and_left (s && l && o) k w4 in
-      let w2 = and_left (s && l) o w3 in
+      let w5 = and_parts (s && l && o && k) c w in
+      let w4 = and_parts (s && l && o) k w5.0 in
+      let w3 = and_parts (s && l) o w4.0 in
+      let w2 = and_parts s l w3.0 in
       record {
-        size = eqb-true (length a) area_size (and_left s l w2);
-        lengths = every_each slot_count (length_rule a) (and_right s l w2);
-        order = every_each (slot_count - 1) (order_rule a) (and_right (s && l) o w3);
-        kinds = every_each slot_count (kind_rule a) (and_right (s && l && o) k w4);
-        ceilings = every_each (slot_count - 1) (ceiling_rule a) (and_right (s && l && o && k) c w);
+        size = eqb-true (length a) area_size w2.0;
+        lengths = every_each slot_count (length_rule a) w2.1;
+        order = every_each (slot_count - 1) (order_rule a) w3.1;
+        kinds = every_each slot_count (kind_rule a) w4.1;
+        ceilings = every_each (slot_count - 1) (ceiling_rule a) w5.1;
       }
 
   abbrev n : ℕ
@@ -130,7 +132,7 @@ module _ (a : List ℕ) (w : well_formed a ≡ true) where
       by true q = eqb-true (length_of a (k + 1)) 0 q
       by false q =
           let t = eqb-true (length_of a (k + 1)) taken_length (or_right (free a (k + 1)) (taken a (k + 1)) (keeps_rules.lengths (k + 1) (omega arith)) q) in
-          false_true (rw (z, t) at (keeps_rules.order k l))
+          absurd (false≢true (rw (z, t) at (keeps_rules.order k l)))
 
   free_from : (d : ℕ) → n + d < slot_count → length_of a (n + d) ≡ 0
   free_from zero l = let e : n + 0 ≡ n = omega arith in rw e (eqb-true (length_of a n) 0 (first_at slot_count (free a) (omega arith)))
@@ -152,7 +154,7 @@ module _ (a : List ℕ) (w : well_formed a ≡ true) where
 
 chain_taken : (a : List ℕ) (k : ℕ) → continues a k ≡ true → length_of a k ≡ taken_length
 unfolding continues
-chain_taken a k e = eqb-true (length_of a k) taken_length (and_left (taken a k) (eqb (kind_of a k) taken_kind) (and_left _ _ e))
+chain_taken a k e = eqb-true (length_of a k) taken_length (and_parts (taken a k) (eqb (kind_of a k) taken_kind) (and_parts _ _ e).0).0
 
 module _ (a : List ℕ) where
   -- slots that go on one after the other up to n, and free ones from there
@@ -163,11 +165,11 @@ module _ (a : List ℕ) where
     size = size;
     fits = fits;
     takes = λ k l. chain_taken a k (each k l);
-    kinds = λ k l. eqb-true (kind_of a k) taken_kind (and_right (taken a k) (eqb (kind_of a k) taken_kind) (and_left _ _ (each k l)));
+    kinds = λ k l. eqb-true (kind_of a k) taken_kind (and_parts (taken a k) (eqb (kind_of a k) taken_kind) (and_parts _ _ (each k l)).0).1;
     rises = λ k l.
         let e : suc k ≡ k + 1 = omega arith in
         ltb-true (ceiling_of a k) (ceiling_of a (k + 1))
-        (rw e at (or_right (eqb (suc k) 0) (ltb (ceiling_of a k) (ceiling_of a (suc k))) (and_right (taken a (suc k) && eqb (kind_of a (suc k)) taken_kind) _ (each (suc k) (omega arith)))
+        (rw e at (or_right (eqb (suc k) 0) (ltb (ceiling_of a k) (ceiling_of a (suc k))) (and_parts (taken a (suc k) && eqb (kind_of a (suc k)) taken_kind) _ (each (suc k) (omega arith))).1
         (ne_eqb (suc k) 0 (λ e. omega arith))));
     frees = frees;
   }
@@ -183,7 +185,7 @@ module _ (a : List ℕ) where
       by : (b c : Bool) → ltb n (first_free a) ≡ b → ltb (first_free a) n ≡ c → n ≡ first_free a
       by true c q r =
           let l = ltb-true n (first_free a) q in
-          false_true (sym (stops (omega (arith, h.fits))) ∙ holds_continues h n l)
+          absurd (false≢true (sym (stops (omega (arith, h.fits))) ∙ holds_continues h n l))
       by false true q r =
           let l = ltb-true (first_free a) n r in
           absurd (let t = chain_taken a (first_free a) (each (first_free a) l) in let z = h.frees (first_free a) (omega arith) (omega arith) in omega arith)

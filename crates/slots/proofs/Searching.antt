@@ -1,34 +1,16 @@
--- Truth values, and what holds of every slot or of the first one. Assumes nothing.
-use mathlib.Core.Path.{◌≡◌, refl, sym, ap}
-use mathlib.Core.Bool.{Bool, true, false, cond, ◌&&◌, ◌||◌}
+-- What holds of every slot or of the first one. Assumes nothing.
+use mathlib.Core.Path.{◌≡◌, refl, ap}
+use mathlib.Core.Bool.{Bool, true, false, cond, true≢false, ◌||◌}
 use Prim.Native.Nat.{ℕ, zero, suc, ◌+◌, ◌<◌, ◌≤◌}
 use native.Mathlib.Omega.{arith}
 use borrow.Author.Tests.{ltb-true, ltb-false}
 use lib.Dec.{ltb}
+use Rattle.std.proofs.lemmas.Bool.{and_parts}
 use Rattle.slots.specs.Area.{every, first}
 
-pub false_true : {A : Type 0} → false ≡ true → A
-false_true e = absurd (let z : ◌≡◌ {A = ℕ} 0 1 = cc in omega arith)
-
-pub and_left : (x y : Bool) → x && y ≡ true → x ≡ true
-and_left true y e = refl
-and_left false y e = e
-
-pub and_right : (x y : Bool) → x && y ≡ true → y ≡ true
-and_right true y e = e
-and_right false y e = false_true e
-
-pub and-false : (x : Bool) → x && false ≡ false
-and-false true = refl
-and-false false = refl
-
 pub or_right : (x y : Bool) → x || y ≡ true → x ≡ false → y ≡ true
-or_right true y e n = false_true (sym n)
+or_right true y e n = absurd (true≢false n)
 or_right false y e n = e
-
-pub not-true : (b : Bool) → (b ≡ true → ⊥) → b ≡ false
-not-true true n = absurd (n refl)
-not-true false n = refl
 
 -- a rule for the numbers below n, and for n, is one for those below n + 1
 pub each_more : {P : ℕ → Type 0} (n : ℕ) → ((k : ℕ) → k < n → P k) → P n → (k : ℕ) → k < n + 1 → P k
@@ -47,7 +29,8 @@ pub every_each : (n : ℕ) (p : ℕ → Bool) → every n p ≡ true → (k : �
 unfolding every
 every_each zero p e k l = absurd (omega arith)
 every_each (suc n) p e k l =
-    each_more {P = λ k. p k ≡ true} n (every_each n p (and_left (every n p) (p n) e)) (and_right (every n p) (p n) e) k (omega arith)
+    let parts = and_parts (every n p) (p n) e in
+    each_more {P = λ k. p k ≡ true} n (every_each n p parts.0) parts.1 k (omega arith)
 
 pub first_most : (n : ℕ) (p : ℕ → Bool) → first n p ≤ n
 unfolding first

@@ -1,8 +1,8 @@
 // The slots of a journal's area (02, request 4): how a lent area is read.
 #![tactic(auto)]
 
-ghost use Rattle.std.specs.Prelude.{◌≡◌, true, false, ℕ, ◌<◌, ◌≤◌};
-ghost use Rattle.slots.specs.Area.{slot_count, length_of, kind_of, ceiling_of, ceiling_before};
+ghost use Rattle.std.specs.Prelude.{◌≡◌, true, false, ℕ, ◌+◌, ◌*◌, ◌<◌, ◌≤◌, ◌&&◌, ◌||◌, eqb, ltb, length};
+ghost use Rattle.slots.specs.Area.{slot_count, slot_size, taken_kind, taken, length_of, kind_of, ceiling_of, ceiling_before};
 ghost use Rattle.slots.specs.Contents.{continues, contents_of};
 
 const AREA_SIZE: usize = 4096;
@@ -19,104 +19,100 @@ pub const TAKEN_LENGTH: u16 = 10;
 
 pub const TAKEN_KIND: u16 = 1;
 
-// What an area holds: how many slots are taken, and the last ceiling.
-#[derive(Clone, Copy)]
-pub enum Contents {
-    Ceilings(usize, u64),
-    Malformed,
+// What a well-formed area holds: how many slots are taken, from the first on, and the last ceiling, 0 with none.
+#[derive(Clone, Copy, PartialEq, Eq)]
+pub struct Taken {
+    pub count: usize,
+    pub ceiling: u64,
 }
 
-// Slots from the first on that are taken, in order: how many, and the last ceiling.
-#[derive(Clone, Copy)]
-struct Prefix {
-    count: usize,
-    ceiling: u64,
+impl Taken {
+    // Whether no slot is left.
+    pub fn is_full(self) -> bool
+        ensures { result ≡ eqb self.count slot_count }
+    {
+        self.count == SLOT_COUNT
+    }
 }
 
-fn length_of(area: &[u8], slot: usize) -> u16
-    requires { slot < slot_count }
-    ensures { result ≡ length_of area.now slot }
+// An area that is not well formed.
+#[derive(Clone, Copy, PartialEq, Eq)]
+pub struct Malformed;
+
+// The fields of a slot's bytes, by their names: it is the first slot in them.
+fn length_of(slot: &[u8]) -> u16
+    ensures { result ≡ length_of slot.now 0 }
 {
-    fields::half(area, SLOT_SIZE * slot)
+    fields::number(slot, 0)
 }
 
-fn kind_of(area: &[u8], slot: usize) -> u16
-    requires { slot < slot_count }
-    ensures { result ≡ kind_of area.now slot }
+fn kind_of(slot: &[u8]) -> u16
+    ensures { result ≡ kind_of slot.now 0 }
 {
-    fields::half(area, SLOT_SIZE * slot + KIND_AT)
+    fields::number(slot, KIND_AT)
 }
 
-fn ceiling_of(area: &[u8], slot: usize) -> u64
-    requires { slot < slot_count }
-    ensures { result ≡ ceiling_of area.now slot }
+fn ceiling_of(slot: &[u8]) -> u64
+    ensures { result ≡ ceiling_of slot.now 0 }
 {
-    fields::long(area, SLOT_SIZE * slot + CEILING_AT)
+    fields::number(slot, CEILING_AT)
 }
 
 // Whether a slot is taken, has the right kind, and holds more than the last ceiling before it.
-fn is_next(area: &[u8], slot: usize, last: u64) -> bool
-    requires { (slot < slot_count) × (last ≡ ceiling_before area.now slot) }
-    ensures { result ≡ continues area.now slot }
+fn is_next(slot: &[u8], before: Taken) -> bool
+    ensures { result ≡ (taken slot.now 0 && eqb (kind_of slot.now 0) taken_kind && (eqb before.count 0 || ltb before.ceiling (ceiling_of slot.now 0))) }
 {
-    if length_of(area, slot) != TAKEN_LENGTH {
-        return false;
-    }
-    if kind_of(area, slot) != TAKEN_KIND {
-        return false;
-    }
-    if slot == 0 {
-        return true;
-    }
-    last < ceiling_of(area, slot)
+    length_of(slot) == TAKEN_LENGTH
+        && kind_of(slot) == TAKEN_KIND
+        && (before.count == 0 || before.ceiling < ceiling_of(slot))
 }
 
-fn leading(area: &[u8]) -> Prefix
-    ensures fits { result.count ≤ slot_count }
+// Slots from the first on that are taken, in order.
+fn leading(area: &[u8]) -> Taken
+    ensures fits { slot_size * result.count ≤ length area.now }
     ensures last { result.ceiling ≡ ceiling_before area.now result.count }
     ensures each { (k : ℕ) → k < result.count → continues area.now k ≡ true }
-    ensures stops { result.count < slot_count → continues area.now result.count ≡ false }
+    ensures stops { slot_size * (result.count + 1) ≤ length area.now → continues area.now result.count ≡ false }
 {
-    let mut count = 0;
-    let mut ceiling: u64 = 0;
-    while count < SLOT_COUNT {
-        if is_next(area, count, ceiling) {
-            ceiling = ceiling_of(area, count);
-            count = count + 1;
-        } else {
-            return Prefix { count, ceiling };
+    let mut found = Taken {
+        count: 0,
+        ceiling: 0,
+    };
+    for slot in area.chunks_exact(SLOT_SIZE) {
+        if !is_next(slot, found) {
+            return found;
         }
+        found = Taken {
+            count: found.count + 1,
+            ceiling: ceiling_of(slot),
+        };
     }
-    Prefix { count, ceiling }
+    found
 }
 
-// Whether every slot from one on is free.
-fn is_free_from(area: &[u8], slot: usize) -> bool
-    requires { slot ≤ slot_count }
-    ensures sound { (k : ℕ) → result ≡ true → slot ≤ k → k < slot_count → length_of area.now k ≡ 0 }
-    ensures complete { ((k : ℕ) → slot ≤ k → k < slot_count → length_of area.now k ≡ 0) → result ≡ true }
+// Whether all slots in these bytes are free.
+fn are_free(slots: &[u8]) -> bool
+    ensures sound { (k : ℕ) → result ≡ true → slot_size * (k + 1) ≤ length slots.now → length_of slots.now k ≡ 0 }
+    ensures complete { ((k : ℕ) → slot_size * (k + 1) ≤ length slots.now → length_of slots.now k ≡ 0) → result ≡ true }
 {
-    let mut k = slot;
-    while k < SLOT_COUNT {
-        if length_of(area, k) != 0 {
-            return false;
-        }
-        k = k + 1;
-    }
-    true
+    slots
+        .chunks_exact(SLOT_SIZE)
+        .all(|slot| length_of(slot) == 0)
 }
 
 // One pass: the taken slots, and then the free ones.
-pub fn read(area: &[u8]) -> Contents
+// The hint keeps what it answers in the registers of its callers.
+#[inline]
+pub fn read(area: &[u8]) -> Result<Taken, Malformed>
     ensures { result ≡ contents_of area.now }
 {
     if area.len() != AREA_SIZE {
-        return Contents::Malformed;
+        return Err(Malformed);
     }
-    let prefix = leading(area);
-    let count = prefix.count;
-    if is_free_from(area, count) {
-        return Contents::Ceilings(count, prefix.ceiling);
+    let found = leading(area);
+    if are_free(&area[SLOT_SIZE * found.count..]) {
+        Ok(found)
+    } else {
+        Err(Malformed)
     }
-    Contents::Malformed
 }

@@ -3,18 +3,8 @@ use Rattle.journal_export.specs.Export.{started_result}
 use Rattle.journal_export.proofs.Results.{restart_bit}
 use Rattle.journal_export.proofs.rostuvlad_journal_restart.Goals as goal
 
-pub returns-in-Ready : goal.returns-in-Ready
-returns-in-Ready c = let ready = sym c.restart-started.ensures ∙ c.in-Ready.is in
-    record {
-      result = rw ready;
-      refused = sym (ap started_result ready) ∙ restart_bit _;
-      next = rw ready;
-    }
+pub returns-in_default-clause-refused : goal.returns-in_default-clause-refused
+returns-in_default-clause-refused c = ap started_result (sym c.in_default.is ∙ c.restart.ensures) ∙ restart_bit _
 
-pub returns-in-Refused : goal.returns-in-Refused
-returns-in-Refused c = let refused = sym c.restart-started.ensures ∙ c.in-Refused.is in
-    record {
-      result = rw refused;
-      refused = sym (ap started_result refused) ∙ restart_bit _;
-      next = rw refused;
-    }
+pub returns-clause-refused : goal.returns-clause-refused
+returns-clause-refused c = ap started_result (sym c.in-Ok.is ∙ c.restart.ensures) ∙ restart_bit _

@@ -1,13 +1,15 @@
-use mathlib.Core.Path.{◌≡◌}
-use Prim.Native.Nat.{ℕ, ◌<◌, ◌≤◌, ◌-◌}
-use mathlib.Core.Bool.{true}
+use Rattle.std.proofs.Common.{◌≡◌, true, ℕ, ◌*◌, ◌<◌, ◌≤◌, length, drop}
+use Rattle.std.specs.Slice.Iter.{chunks_exact_rest, chunks_exact_size}
+use Rattle.slots.specs.Area.{slot_size, ceiling_before}
 use Rattle.slots.specs.Contents.{continues}
-use Rattle.slots.specs.Area.{slot_count, ceiling_before}
 use Rattle.slots.proofs.leading.Given as goal
 
-abbrev pub invariant-loop-count : goal.invariant-loop-count
-invariant-loop-count l =
-    (l.count ≤ slot_count) × (l.ceiling ≡ ceiling_before l.area l.count) × ((k : ℕ) → k < l.count → continues l.area k ≡ true)
-
-abbrev pub decreases-loop-count : goal.decreases-loop-count
-decreases-loop-count l = slot_count - l.count
+abbrev pub invariant-loop-slot : goal.invariant-loop-slot
+invariant-loop-slot l = record {
+  going : (goal.iterator-loop-slot).can_next l.slot-iterator × (goal.iterator-loop-slot).is_finite l.slot-iterator;
+  size : chunks_exact_size l.slot-iterator ≡ slot_size;
+  rest : chunks_exact_rest l.slot-iterator ≡ drop (slot_size * l.found.count) l.area;
+  fits : slot_size * l.found.count ≤ length l.area;
+  last : l.found.ceiling ≡ ceiling_before l.area l.found.count;
+  each : (k : ℕ) → k < l.found.count → continues l.area k ≡ true;
+}
