@@ -92,13 +92,12 @@ impl Bytes {
         }
     }
 
-    // How many bytes differ from the copy.
-    fn changed(&self) -> usize {
-        self.now
-            .iter()
-            .zip(&self.kept)
-            .filter(|(a, b)| a != b)
-            .count()
+    // How many bytes differ from the copy: at most SPACE. A fold over all of them, which takes many at once, as `filter` and `count` don't.
+    fn changed(&self) -> u32 {
+        self.now.iter().zip(&self.kept).fold(
+            0u32,
+            |count, (a, b)| count.wrapping_add(u32::from(a != b)),
+        )
     }
 }
 
@@ -248,7 +247,7 @@ fn performed(rt: &impl Print, bytes: &mut Bytes, script: Script) -> io::Result<S
         Some(Command::Keep) => bytes.kept.copy_from_slice(&bytes.now),
         Some(Command::Changed) => {
             print!(rt; " ->")?;
-            say_number(rt, bytes.changed() as u64)?;
+            say_number(rt, u64::from(bytes.changed()))?;
         }
         Some(Command::Call(call)) => {
             print!(rt; " ->")?;
@@ -260,24 +259,18 @@ fn performed(rt: &impl Print, bytes: &mut Bytes, script: Script) -> io::Result<S
     Ok(after)
 }
 
-// One byte of the script.
+// One byte of the script, which is written behind what its command says.
 fn turn(rt: &impl Print, bytes: &mut Bytes, script: Script, byte: u8) -> io::Result<Script> {
-    match byte {
+    let after = match byte {
         b':' => {
             *bytes = Bytes::fresh();
-            rt.write_all(&[byte])?;
-            Ok(Script::begun())
+            Script::begun()
         }
-        b';' | b'\n' => {
-            let after = performed(rt, bytes, script)?;
-            rt.write_all(&[byte])?;
-            Ok(after)
-        }
-        _ => {
-            rt.write_all(&[byte])?;
-            Ok(script.with_byte(byte))
-        }
-    }
+        b';' | b'\n' => performed(rt, bytes, script)?,
+        _ => script.with_byte(byte),
+    };
+    rt.write_all(&[byte])?;
+    Ok(after)
 }
 
 fn play(rt: &impl Print, text: &[u8]) -> io::Result<()> {
